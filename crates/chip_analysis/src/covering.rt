@@ -1,4 +1,4 @@
-//! `check --cover`: the addresses of a source's image that key scripts execute.
+//! `check --cover`: finds the addresses of a source's image that key scripts execute.
 ghost use Rattle.std.specs.Prelude.{◌≡◌, ◌↔◌, ◌<◌, IfOk, IsErr, IsTrue};
 ghost use Rattle.chip_machine.specs.Start.{start_of};
 ghost use Rattle.chip_analysis.specs.Exploring.{usual_keys};
@@ -20,13 +20,13 @@ use std::alloc::{AllocError, Global};
 #[derive(Drop)]
 pub(crate) struct Covered {
     executed: Executed,
-    /// The step up to which the search went. None if it went to the end.
+    /// The step up to which the addresses are known. None if they are known for all steps.
     within: Option<u64>,
 }
 
 impl Covered {
-    /// Searches the key scripts of all keys under these settings, with the bounds that `explore` has by
-    /// default, and returns the addresses that they execute. Fails if memory runs out.
+    /// Searches all scripts of the sixteen keys under these settings, with the default bounds of
+    /// `explore`. Returns the addresses that the scripts execute. Fails if memory runs out.
     pub(crate) fn of<W: Watcher>(
         alloc: Global,
         image: &[u8],
@@ -40,7 +40,7 @@ impl Covered {
         Covered::from_start(alloc, &start, settings.rate(), watcher)
     }
 
-    // Makes such a search from a start state.
+    // Runs this search from a start state.
     fn from_start<W: Watcher>(
         alloc: Global,
         start: &Machine,
@@ -71,7 +71,7 @@ impl Covered {
         Covered::seen_by(explore(alloc, start, &question, &bounds, watcher))
     }
 
-    // Returns the addresses that a search executed, unless memory ran out in it.
+    // Returns the addresses that a search executed. Fails if memory ran out during the search.
     fn seen_by(explored: Explored) -> Result<Covered, AllocError>
         ensures executed { IfOk result (λ covered. covered.executed ≡ explored.executed) }
         ensures within { IfOk result (λ covered. covered.within ≡ covered_step explored.outcome) }
@@ -86,7 +86,7 @@ impl Covered {
         })
     }
 
-    // Returns the coverage in the form that the warnings take.
+    // Returns the coverage as the warnings need it.
     fn coverage(&self) -> Coverage<'_>
         ensures executed { result.executed.now ≡ self.now.executed }
         ensures within { result.within ≡ self.now.within }
@@ -98,7 +98,7 @@ impl Covered {
     }
 }
 
-/// Returns the coverage in the form that the warnings take, if there is any.
+/// Returns the coverage as the warnings need it, if there is any.
 pub(crate) fn coverage_in(covered: &Option<Covered>) -> Option<Coverage<'_>>
     ensures { IsCoverageOf covered.now result }
 {
@@ -108,7 +108,7 @@ pub(crate) fn coverage_in(covered: &Option<Covered>) -> Option<Coverage<'_>>
     }
 }
 
-// Returns the step up to which a search knows what is executed. None if it knows that for all steps.
+// Returns the step up to which a search knows the executed addresses. None if it knows them for all steps.
 fn covered_by(outcome: &Outcome) -> Option<u64>
     ensures { result ≡ covered_step outcome.now }
 {

@@ -1,4 +1,4 @@
-//! Facts before the searches of `explore` and `prove`: what they exclude, and which stops they leave.
+//! Facts that are found before `explore` and `prove` search: what they exclude, and which stops they leave.
 
 ghost use Rattle.std.specs.Prelude.{◌≡◌, ◌≤◌, ◌<◌, ◌++◌, ℕ, IfOk, IfSome, IsTrue, List, OnOk, length, option_copied, option_map, slice_index};
 ghost use Rattle.chip_lang.specs.declared.limits.TheConstants.{IMAGE_BYTES};
@@ -19,19 +19,19 @@ use chip_verdicts::excludes;
 use std::alloc::{AllocError, Global};
 use std::slice;
 
-/// The most steps that the search for facts makes before `explore` and `prove` search.
+/// The maximum number of steps in the search for facts before `explore` or `prove` searches.
 const FACT_STEPS: usize = 200_000;
 
-/// The most steps that the search for facts makes in `check`, which an editor runs at each pause.
+/// The maximum number of steps in the search for facts in `check`, which an editor runs at each pause.
 pub(crate) const CHECK_FACT_STEPS: usize = 40_000;
 
-/// Returns the most steps that the search for facts makes before a search: none if facts aren't asked for.
+/// Returns the maximum number of steps in the search for facts: 0 if the arguments switch facts off.
 pub(crate) fn fact_steps(are_asked: bool) -> usize {
     if are_asked { FACT_STEPS } else { 0 }
 }
 
-/// Returns the facts about an image, if that many steps find any. None if memory runs out, because a search
-/// may still answer.
+/// Returns the facts about an image, if this many steps suffice to find any. Returns None if memory
+/// runs out, because a search may still find an answer.
 pub(crate) fn facts_within(
     alloc: Global,
     most_steps: usize,
@@ -47,7 +47,7 @@ pub(crate) fn facts_within(
     }
 }
 
-/// Whether facts exclude a property: with any keys, random bytes and speed, no state meets it.
+/// Whether facts exclude a property, so that no state meets it with any keys, random bytes and speed.
 pub(crate) fn excludes_property(facts: &Facts, property: &Property) -> bool
     ensures { IsTrue result → (image : List ℕ) (quirks : Quirks)
         → HoldFacts image quirks facts.now → NeverMet image quirks (looks_for property.now) }
@@ -60,12 +60,12 @@ pub(crate) fn excludes_property(facts: &Facts, property: &Property) -> bool
     excludes(facts, &target)
 }
 
-/// The law that the elements of a slice of bytes are below 256.
+/// States that the elements of a slice of bytes are below 256.
 pub(crate) fn bytes_are_small(bytes: &[u8])
     ensures { (i : ℕ) → slice_index bytes.now i < 256 }
 {}
 
-/// Returns whether a step may be made at each address. None without facts.
+/// Returns for each address whether the machine may execute a step there. None without facts.
 pub(crate) fn executed_in(facts: &Option<Facts>) -> Option<&[bool]>
     ensures { option_copied result ≡ option_map (λ found. found.executed.items) facts.now }
 {
@@ -75,7 +75,7 @@ pub(crate) fn executed_in(facts: &Option<Facts>) -> Option<&[bool]>
     }
 }
 
-/// Returns the stops that facts leave. None without facts.
+/// Returns the stops that the facts don't exclude. None without facts.
 pub(crate) fn left_of(facts: &Option<Facts>) -> Option<&[Left]>
     ensures { option_copied result ≡ option_map (λ found. found.left.items) facts.now }
 {
@@ -104,17 +104,17 @@ pub(crate) fn excluded_text(
     Ok(text)
 }
 
-/// The machine that is searched, before its first step, and its source.
+/// A machine before its first step, and the source of its image.
 #[derive(Clone, Copy)]
 pub(crate) struct Searched<'p> {
     pub(crate) source: &'p Source,
     pub(crate) start: &'p Machine,
-    /// Whether the source was given as an image, so that the answer names its words and not its lines.
+    /// Whether the source was given as an image, so that the answer shows words instead of lines.
     pub(crate) is_image: bool,
 }
 
 impl Searched<'_> {
-    /// Returns a line for each stop that facts leave and whose cause is looked for, in their order.
+    /// Returns a line for each stop that the facts don't exclude, in order. Stops of other causes are left out.
     pub(crate) fn left_text(
         &self,
         alloc: Global,
@@ -133,8 +133,8 @@ impl Searched<'_> {
         Ok(text)
     }
 
-    /// Returns the line of the source at an address. For an image, or if no line begins there, returns the
-    /// word at the address before the first step.
+    /// Returns the source line at an address. For an image, or if no line begins there, returns the
+    /// word that is at the address before the first step.
     fn place_of(&self, alloc: Global, address: u16) -> Result<Vec<u8>, AllocError> {
         if !self.is_image {
             let line = line_text(alloc, self.source, address)?;
@@ -146,7 +146,7 @@ impl Searched<'_> {
     }
 }
 
-/// Adds the line of a stop that facts leave.
+/// Appends the line for a stop that the facts don't exclude.
 fn push_left(text: &mut Vec<u8>, one: &Left, place: &[u8]) -> Result<(), AllocError>
     ensures { OnOk result (text.new.items ≡ text.old.items ++ left_line place.now one.now) }
 {

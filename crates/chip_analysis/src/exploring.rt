@@ -1,4 +1,4 @@
-//! `explore`: a search over all key scripts of a source's image.
+//! `explore`: searches all key scripts of a source's image.
 ghost use Rattle.std.specs.Prelude.{◌≡◌, ◌<◌, ◌∷◌, [], ◌++◌, ℕ, List, Ok, IfOk, IfErr, OnOk, option_copied};
 ghost use Rattle.chip_asm.specs.Program.{symbols_of};
 ghost use Rattle.chip_machine.specs.Start.{start_of};
@@ -35,8 +35,8 @@ use std::io::{Read, Write};
 use std::mem;
 use std::time::Clock;
 
-/// `explore`: searches all key scripts of a source's image and prints the answer, or prints the faults if
-/// there is no image. Settings and sets are judged before the source is read.
+/// `explore`: searches all key scripts of a source's image and prints the answer. If there is no
+/// image, prints the faults instead. The settings and sets are checked before the source is read.
 pub fn explore<'a, F: FileAccess + Clock, I: Read, O: Write, E: Write>(
     system: &System<'_, F>,
     arguments: &ExploreArguments<'a>,
@@ -135,25 +135,25 @@ fn search_opened<'p, 'a, F: FileAccess, O: Write, T: Teller>(
     search.carry_out(system, output, teller)
 }
 
-/// Whether facts are asked for before the search. A listing with marks does without them, because its marks
-/// show what the search executes.
+/// Whether facts are searched for first. A marked listing needs none, because its marks show the
+/// addresses that the search itself executes.
 fn asks_facts(arguments: &ExploreArguments<'_>) -> bool {
     !arguments.search.is_without_facts && !arguments.is_covering
 }
 
-/// A search, and the source whose image is searched.
+/// A search, and the source whose image it searches.
 #[derive(Clone, Copy)]
 struct Search<'p, 'a> {
     arguments: &'p ExploreArguments<'a>,
     source: &'p Source,
     start: &'p Machine,
     question: &'p Question<'p>,
-    /// The stops that facts leave. None without facts.
+    /// The stops that the facts don't exclude. None without facts.
     left: Option<&'p [Left]>,
 }
 
-// Returns the machine of a source's image before its first step. The image is within its bounds, and the tape
-// has to be, so only memory can be missing.
+// Returns the machine of a source's image before its first step. The image fits, and the tape is
+// required to, so only a lack of memory can make this fail.
 pub(crate) fn machine_of(
     alloc: Global,
     image: &[u8],
@@ -168,7 +168,7 @@ pub(crate) fn machine_of(
     }
 }
 
-// Returns the property that the arguments state, if there is one.
+// Returns the property in the arguments, if there is one.
 fn properties_asked<'a>(
     alloc: Global,
     arguments: &ExploreArguments<'a>,
@@ -185,7 +185,7 @@ fn properties_asked<'a>(
     }
 }
 
-// Returns the property of a kind that the text of an option states. Fails with a report if it states none.
+// Returns the property of this kind that an option's text states. If the text is not a property, fails with a report.
 fn one_property<'a>(
     alloc: Global,
     option: &[u8],
@@ -215,7 +215,7 @@ fn alone(alloc: Global, property: Property) -> Result<Vec<Property>, AllocError>
     Ok(properties)
 }
 
-// Returns what a search looks for. None if the source doesn't have the place.
+// Returns the target of a search. None if the place is not in the source.
 fn target_of<'p>(
     arguments: &ExploreArguments<'_>,
     causes: Causes,
@@ -236,8 +236,8 @@ fn target_of<'p>(
     })
 }
 
-// Returns the address of a place: the number that it spells, or else the value of the name. None if that is
-// no address.
+// Returns the address of a place: its number, or otherwise the value of its name. None if the
+// result is not an address.
 fn address_of(place: &[u8], source: &Source) -> Option<u16>
     ensures { result ≡ address_of (symbols_of source.now.lines) place.now }
 {
@@ -247,7 +247,7 @@ fn address_of(place: &[u8], source: &Source) -> Option<u16>
     }
 }
 
-// Returns a number as an address, if it is from 0 to 4095.
+// Returns a number as an address, if it is between 0 and 4095.
 fn in_memory(number: i64) -> Option<u16>
     ensures { result ≡ in_memory number }
 {
@@ -259,8 +259,8 @@ fn in_memory(number: i64) -> Option<u16>
 }
 
 impl<'p, 'a> Search<'p, 'a> {
-    // Makes the search, prints the answer, and writes the key events of a script that was found, if a file is
-    // named.
+    // Runs the search and prints the answer. If a script was found and a file is named for it,
+    // writes the script's key events to that file.
     fn carry_out<F: FileAccess, O: Write, T: Teller>(
         &self,
         system: &System<'_, F>,
@@ -272,7 +272,7 @@ impl<'p, 'a> Search<'p, 'a> {
         ensures searched { SearchesFrom O.contents output.old output.new self.now.arguments.now
             self.now.source.now.lines self.now.question.now.rate self.now.question.now.allowed
             self.now.question.now.target (option_copied self.now.left) self.now.start.now result }
-        // The program ends as faulty where a script was found, which is then written.
+        // If a script was found, it is written, and the program ends as faulty.
         ensures written { result ≡ Ok Ending.Faulty
             → IsNamedWritten (F.wrote system.now.files.now) self.now.arguments.now.search.keys_to }
     {
@@ -284,7 +284,7 @@ impl<'p, 'a> Search<'p, 'a> {
             left,
         } = *self;
         let ticks = if arguments.is_covering {
-            // The marks of the listing show what is executed at the rate.
+            // The marks of the listing show what is executed at the settings' rate.
             Ticks::AtRate
         } else if arguments.search.is_any_speed {
             Ticks::FreeWithAll
@@ -322,7 +322,7 @@ impl<'p, 'a> Search<'p, 'a> {
     }
 }
 
-/// Returns the bounds that the arguments set for a search.
+/// Returns the search bounds that the arguments set.
 pub(crate) fn bounds_of(arguments: &SearchArguments<'_>, ticks: Ticks) -> Bounds {
     Bounds {
         steps: match arguments.steps {
@@ -336,7 +336,7 @@ pub(crate) fn bounds_of(arguments: &SearchArguments<'_>, ticks: Ticks) -> Bounds
     }
 }
 
-/// Returns the number of bytes in this many megabytes of 1,000,000 bytes.
+/// Returns the number of bytes in this many megabytes, each 1,000,000 bytes.
 pub(crate) fn bytes_of(megabytes: u32) -> u64 {
     u64::from(megabytes) * 1_000_000
 }
@@ -377,7 +377,7 @@ pub(crate) fn script_text(alloc: Global, events: &[KeyEvent]) -> Result<Vec<u8>,
     Ok(text)
 }
 
-// Returns the text that is printed for a search, with the lines of the stops that facts leave.
+// Returns the text printed for a search, with a line for each stop in `stops` and, if asked for, a marked listing.
 fn search_text(
     alloc: Global,
     arguments: &ExploreArguments<'_>,
@@ -411,7 +411,7 @@ fn search_ending(explored: &Explored) -> Ending
     }
 }
 
-// Adds the first lines of an answer. `is_any_speed` is whether an answer at any speed is asked for.
+// Appends the first lines of an answer. `is_any_speed` is whether the arguments ask for an answer at any speed.
 fn push_first_lines(
     text: &mut Vec<u8>,
     is_any_speed: bool,
@@ -444,7 +444,7 @@ fn push_first_lines(
     }
 }
 
-// Adds what was met, the step, and the place in the source.
+// Appends what was met, the step, and the place in the source.
 fn push_met(text: &mut Vec<u8>, met: Met, step: u32, place: &[u8]) -> Result<(), AllocError>
     ensures { OnOk result (text.new.items
         ≡ text.old.items ++ met_line (met_word met) step place.now) }
@@ -459,7 +459,7 @@ fn push_met(text: &mut Vec<u8>, met: Met, step: u32, place: &[u8]) -> Result<(),
     text.extend_from_slice(b"\n")
 }
 
-// Returns the lines of the other causes that a search met, and of how many states it kept.
+// Returns a line for each other cause that the search met, and a line with the number of states it kept.
 fn lines_below(alloc: Global, explored: &Explored) -> Result<Vec<u8>, AllocError> {
     let mut text = Vec::new(alloc);
     for cause in STOPS {
@@ -471,14 +471,14 @@ fn lines_below(alloc: Global, explored: &Explored) -> Result<Vec<u8>, AllocError
     Ok(text)
 }
 
-/// Returns the code of a stop cause and a space, as they precede a number.
+/// Returns the code of a stop cause and a space, to print before a number.
 pub(crate) fn cause_word(cause: Stop) -> [u8; 3]
     ensures { result ≡ cause_word cause }
 {
     [b'S', b'0' + cause.number() as u8, b' ']
 }
 
-/// Adds a word, a number and the end of the line.
+/// Appends a word, a number and a newline.
 pub(crate) fn push_line(text: &mut Vec<u8>, word: &[u8], number: u64) -> Result<(), AllocError>
     ensures { OnOk result (text.new.items ≡ text.old.items ++ number_line word.now number) }
 {

@@ -1,4 +1,4 @@
-//! The commands that report what holds in all runs of a source: `check`, `explore` and `prove`.
+//! The commands that report what holds in every run of a source: `check`, `explore` and `prove`.
 #![tactic(auto)]
 
 mod checking;

@@ -1,10 +1,10 @@
-//! Notes on properties, places and lines, and their texts.
+//! Notes about properties, places and lines, and the texts of these notes.
 
 use crate::ranges::Fixed;
 use chip_host::Shown;
 use std::io::{self, Write};
 
-/// Writes a note on a line of a source, or on the whole source if the number is 0.
+/// Writes a note about a line of a source, or about the whole source if the number is 0.
 pub(crate) fn write_note<E: Write>(
     errors: &mut E,
     name: &str,
@@ -18,7 +18,7 @@ pub(crate) fn write_note<E: Write>(
     note.write(errors)
 }
 
-/// The reason why a property, a place or a line says less than it seems to.
+/// The reason why a property, a place or a line has less effect than its author may expect.
 #[derive(Clone, Copy)]
 pub(crate) enum Note<'n> {
     /// No line begins at `address`. The nearest line has this number and begins at `begin`.
@@ -33,29 +33,29 @@ pub(crate) enum Note<'n> {
         first: usize,
         last: usize,
     },
-    /// An address was written with these decimal digits.
+    /// An address was written in decimal, with these digits.
     Decimal(&'n str),
-    /// A comparison has only numbers, and this label is one of them.
+    /// A comparison contains only numbers, and one of them is the value of this label.
     Label {
         label: &'n str,
         value: i32,
     },
-    /// A comparison has only numbers.
+    /// A comparison contains only numbers.
     Constant,
-    /// A comparison always has the same answer.
+    /// A comparison has the same answer in every state.
     Fixed(Fixed),
-    /// This word means something in a property, and is also a name of the source.
+    /// This word has a meaning in properties, and is also a name in the source.
     Word(&'n str),
-    /// `;!` follows a statement.
+    /// `;!` follows a statement or a label.
     Hidden,
-    /// Lines that aren't empty follow END.
+    /// Lines that are neither empty nor comments follow END.
     BehindEnd,
-    /// Lines that begin with `;!` follow END.
+    /// Lines that state properties follow END.
     PropertiesBehindEnd,
 }
 
 impl<'n> Note<'n> {
-    /// Writes the text of the note, and the end of the line.
+    /// Writes the text of the note and a newline.
     pub(crate) fn write<E: Write>(self, errors: &mut E) -> io::Result<()> {
         match self {
             Note::NoLineAt {
@@ -82,7 +82,7 @@ impl<'n> Note<'n> {
         }
     }
 
-    /// Writes the text of a note on a comparison or a line.
+    /// Writes the text of a note about a comparison or a line.
     fn write_on_line<E: Write>(self, errors: &mut E) -> io::Result<()> {
         match self {
             Note::Label { label, value } => writeln!(
@@ -105,7 +105,7 @@ impl<'n> Note<'n> {
         }
     }
 
-    /// Returns the text of a note that contains no name and no number.
+    /// Returns the text of a note that contains neither a name nor a number.
     fn sentence(self) -> &'static str {
         match self {
             Note::Constant => "a comparison has only constants, so no step changes its answer",

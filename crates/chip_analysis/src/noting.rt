@@ -1,4 +1,4 @@
-//! Notes, for a reader at a terminal, on properties, places and lines that say less than they seem to.
+//! Notes for a user at a terminal, about properties, places and lines that have less effect than they seem to.
 
 use crate::note::Note;
 use crate::progress::{News, Teller};
@@ -11,7 +11,7 @@ use chip_properties::{Stated, names_used, properties_of, property_text};
 use std::alloc::Global;
 use std::str;
 
-/// Tells the notes on the properties and lines of a source. Nothing is told if memory runs out.
+/// Reports the notes about the properties and lines of a source. Reports nothing if memory runs out.
 pub(crate) fn tell_notes<T: Teller>(alloc: Global, name: &[u8], source: &Source, teller: &mut T) {
     let name = str::from_utf8(name).unwrap_or("");
     if let Ok(properties) = properties_of(alloc, source) {
@@ -20,8 +20,8 @@ pub(crate) fn tell_notes<T: Teller>(alloc: Global, name: &[u8], source: &Source,
     tell_lines(alloc, name, source, teller);
 }
 
-/// Tells which lines of a source have `;!` after a statement, and whether END hides lines. Nothing is told if
-/// memory runs out.
+/// Reports which lines of a source have `;!` after a statement, and whether END hides lines.
+/// Reports nothing if memory runs out.
 pub(crate) fn tell_lines<T: Teller>(alloc: Global, name: &str, source: &Source, teller: &mut T) {
     for number in 1..=source.lines() {
         if let Some(line) = source.line(number)
@@ -35,8 +35,8 @@ pub(crate) fn tell_lines<T: Teller>(alloc: Global, name: &str, source: &Source, 
     }
 }
 
-/// Returns the number of the line with END, and a note on it. None without END, or if all lines that it hides
-/// are empty or comments.
+/// Returns the number of the line with END, and a note about it. Returns None if there is no END,
+/// or if all lines after it are empty or comments.
 pub(crate) fn note_on_end<'n>(source: &Source) -> Option<(usize, Note<'n>)> {
     for number in 1..=source.lines() {
         if let Some(line) = source.line(number)
@@ -52,7 +52,7 @@ pub(crate) fn note_on_end<'n>(source: &Source) -> Option<(usize, Note<'n>)> {
     None
 }
 
-/// Returns the note on the lines below the line with END, unless all of them are empty or comments.
+/// Returns the note about the lines after END. None if all of them are empty or comments.
 fn note_on_hidden<'n>(source: &Source, end: usize) -> Option<Note<'n>> {
     let mut note = None;
     for number in end.saturating_add(1)..=source.lines() {
@@ -68,8 +68,8 @@ fn note_on_hidden<'n>(source: &Source, end: usize) -> Option<Note<'n>> {
     note
 }
 
-/// Tells which properties of a source have a place at which no line begins, or a comparison that always has
-/// the same answer. Nothing is told if memory runs out.
+/// Reports which properties of a source have a place at which no line begins, or a comparison that
+/// has the same answer in every state. Reports nothing if memory runs out.
 pub(crate) fn tell_properties<T: Teller>(
     alloc: Global,
     name: &str,
@@ -91,8 +91,8 @@ pub(crate) fn tell_properties<T: Teller>(
     }
 }
 
-/// Tells which places in the arguments of a search are an address at which no line, or no word of the image,
-/// begins, and which comparisons always have the same answer.
+/// Reports which places in the arguments of a search are addresses at which no line, or no word of
+/// the image, begins. Also reports which comparisons have the same answer in every state.
 pub(crate) fn tell_target<T: Teller>(
     arguments: &ExploreArguments<'_>,
     source: &Source,
@@ -123,8 +123,8 @@ pub(crate) fn tell_target<T: Teller>(
     }
 }
 
-/// Returns the note on an address at which no line begins, or no word of an image. None for any other
-/// address.
+/// Returns the note about an address at which no line, or no word of an image, begins. None for any
+/// other address.
 fn note_on_place<'n>(is_image: bool, source: &Source, address: u16) -> Option<Note<'n>> {
     let wanted = usize::from(address);
     let mut nearest: Option<(usize, usize)> = None;
@@ -162,15 +162,15 @@ fn note_on_place<'n>(is_image: bool, source: &Source, address: u16) -> Option<No
     }
 }
 
-/// Whether a property has a comparison with only numbers.
+/// Whether a property has a comparison that contains only numbers.
 fn has_constant(property: &Property) -> bool {
     property.condition.comparisons.iter().any(|comparison| {
         comparison.left.terms.is_empty() && comparison.right.terms.is_empty()
     })
 }
 
-/// Tells why the first comparison of a property that always has the same answer does so, and which of its words is
-/// also a name of the source. `number` is the number of the property's line, or 0 for an argument.
+/// Reports the bounds of a property's first comparison that has the same answer in every state, and which of its
+/// words are also names in the source. `number` is the line number of the property, or 0 for an argument.
 fn tell_fixed<T: Teller>(
     name: &str,
     number: usize,
@@ -188,7 +188,7 @@ fn tell_fixed<T: Teller>(
     }
 }
 
-/// Tells which words of a side of a comparison are also names of the source.
+/// Reports which words on one side of a comparison are also names in the source.
 fn tell_words<T: Teller>(name: &str, number: usize, source: &Source, side: &Sum, teller: &mut T) {
     for term in &side.terms {
         if let Some(word) = word_of(term.item)
@@ -199,7 +199,7 @@ fn tell_words<T: Teller>(name: &str, number: usize, source: &Source, side: &Sum,
     }
 }
 
-/// Returns the word by which properties name an item, if a source may use that word as a name.
+/// Returns the word for an item in properties, if the word can also be a name in a source.
 fn word_of(item: Item) -> Option<&'static str> {
     match item {
         Item::AsksKeys => Some("KEYS"),
@@ -209,7 +209,7 @@ fn word_of(item: Item) -> Option<&'static str> {
     }
 }
 
-/// Tells that the property of a line compares only numbers, with the address of its first label if it names one.
+/// Reports that a line's property compares only numbers. If it names a label, the note shows the first one's address.
 fn tell_constant<T: Teller>(
     alloc: Global,
     name: &str,
@@ -255,7 +255,7 @@ fn is_comment(line: &[u8]) -> bool {
     matches!(line.trim_ascii_start(), [] | [b';', ..])
 }
 
-/// Whether a line is END.
+/// Whether a line is an END directive.
 fn is_end(line: &LineView<'_>) -> bool {
     matches!(
         line.reading(),
@@ -266,7 +266,7 @@ fn is_end(line: &LineView<'_>) -> bool {
     )
 }
 
-/// Whether `;!` follows the statement or the label of a line, where it states nothing.
+/// Whether `;!` follows the statement or the label of a line, where it has no effect.
 fn hides_property(alloc: Global, line: &LineView<'_>) -> bool {
     let Ok(tokens) = line.tokens(alloc) else {
         return false;
@@ -278,7 +278,7 @@ fn hides_property(alloc: Global, line: &LineView<'_>) -> bool {
     line.is_active() && behind.trim_ascii_start().starts_with(b";!")
 }
 
-/// Tells a note on a line of a source, or on the whole source if the number is 0.
+/// Reports a note about a line of a source, or about the whole source if the number is 0.
 fn tell_of<T: Teller>(name: &str, line: usize, note: Note<'_>, teller: &mut T) {
     teller.tell(News::Noted { name, line, note });
 }

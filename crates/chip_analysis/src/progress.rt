@@ -1,4 +1,4 @@
-//! The messages on standard error during and after a search, and the time at which a search ends.
+//! The messages on standard error during and after a search, and the time limit of a search.
 
 use crate::note::{Note, write_note};
 use chip_arguments::SearchArguments;
@@ -9,25 +9,25 @@ use std::io;
 use std::io::Write;
 use std::time::{Clock, Duration, Instant};
 
-/// A message of a command, apart from its answers.
+/// A message of a command, as opposed to its answers.
 #[derive(Clone, Copy)]
 pub(crate) enum News<'n> {
-    /// A file of this name was written.
+    /// The file with this name was written.
     Written(&'n str),
-    /// The key file of this name was written, and other commands don't take it because it is too long.
+    /// The key file with this name was written, but other commands don't accept it because it is too long.
     WrittenLong(&'n str),
-    /// A file of this name couldn't be written.
+    /// The file with this name couldn't be written.
     Unwritten(&'n str, &'n io::Error),
-    /// The source of this name states no property.
+    /// The source with this name states no property.
     NothingStated(&'n str),
-    /// The time of a search is over.
+    /// The time limit of a search is reached.
     OutOfTime,
     /// A search ended because it kept this many states. Written only if progress is shown.
     OutOfStates(u32),
-    /// A search ended because it took this many megabytes.
+    /// A search ended because it used this many megabytes.
     OutOfMemory(u32),
-    /// A note on a line of the source of this name, or on the whole source if the number is 0. Written only
-    /// if progress is shown.
+    /// A note about a line of the source with this name, or about the whole source if the number is
+    /// 0. Written only if progress is shown.
     Noted {
         name: &'n str,
         line: usize,
@@ -36,7 +36,7 @@ pub(crate) enum News<'n> {
 }
 
 impl<'n> News<'n> {
-    /// The message about a key file that was written with these events, in the order of their steps.
+    /// The message for a key file to which these events, in step order, were written.
     pub(crate) fn of_keys(name: &'n str, events: &[KeyEvent]) -> News<'n> {
         let is_late = events.last().is_some_and(|event| event.step > LAST_STEP);
         if is_late || events.len() > MOST_EVENTS {
@@ -47,7 +47,7 @@ impl<'n> News<'n> {
     }
 }
 
-/// The bound at which a search ended before it had an answer.
+/// The bound at which a search ended without a final answer.
 #[derive(Clone, Copy, PartialEq, Eq)]
 pub(crate) enum Bound {
     Seconds,
@@ -56,7 +56,7 @@ pub(crate) enum Bound {
 }
 
 impl Bound {
-    /// The bound at which a search with these arguments ended, if it ended early.
+    /// The bound at which a search with these arguments ended early, if it did.
     pub(crate) fn of(explored: &Explored, arguments: &SearchArguments<'_>) -> Option<Bound> {
         let is_open = matches!(explored.outcome, Outcome::Within(_) | Outcome::Later { .. });
         if explored.is_stopped {
@@ -70,7 +70,7 @@ impl Bound {
         }
     }
 
-    /// The message about a search with these arguments that ended at the bound.
+    /// The message for a search with these arguments that ended at the bound.
     pub(crate) fn news<'n>(self, arguments: &SearchArguments<'_>) -> News<'n> {
         match self {
             Bound::Seconds => News::OutOfTime,
@@ -79,7 +79,7 @@ impl Bound {
         }
     }
 
-    /// The name of the bound in JSON.
+    /// The name of the bound, as it appears in JSON.
     pub(crate) fn word(self) -> &'static [u8] {
         match self {
             Bound::Seconds => b"seconds",
@@ -89,30 +89,30 @@ impl Bound {
     }
 }
 
-/// A watcher of searches that also writes messages.
+/// A watcher of searches that can also write messages.
 pub(crate) trait Teller: Watcher {
     fn tell(&mut self, news: News<'_>);
 
-    /// Notes that a search begins. `searches` is the number of searches left, with this one. The search ends
-    /// when its share of the time is over.
+    /// Records that a search begins. `searches` is the number of searches left, including this one.
+    /// The search ends when its share of the remaining time is used up.
     fn begin(&mut self, searches: usize);
 }
 
-/// Messages on standard error, and the time at which searches end. Failures of standard error are ignored.
+/// Messages on standard error, and the times at which searches end. Failures of standard error are ignored.
 #[derive(Drop)]
 pub(crate) struct Progress<'e, E, C> {
     errors: &'e mut E,
     is_shown: bool,
     clock: &'e C,
-    /// The time at which all searches end, if there is one.
+    /// The time at which all searches end, if there is a limit.
     end: Option<Instant>,
-    /// The time at which the present search ends, if there is one.
+    /// The time at which the current search ends, if there is a limit.
     end_of_share: Option<Instant>,
 }
 
 impl<'e, E: Write, C: Clock> Progress<'e, E, C> {
-    /// Returns a teller whose searches end after this many seconds. Searches have no end without seconds, or
-    /// if the clock can't be read.
+    /// Returns a teller whose searches end after this many seconds. There is no limit if `seconds`
+    /// is None or the clock can't be read.
     pub(crate) fn new(
         errors: &'e mut E,
         is_shown: bool,
@@ -135,8 +135,8 @@ impl<'e, E: Write, C: Clock> Progress<'e, E, C> {
         }
     }
 
-    /// Returns the time at which a search ends, if this many are left. If the clock can't be read, the search
-    /// may use all the time.
+    /// Returns the time at which the next search ends, if this many searches are left. If the clock
+    /// can't be read, the search may use all the remaining time.
     fn share_of(&self, searches: usize) -> Option<Instant> {
         let end = self.end?;
         let Ok(now) = Instant::now(self.clock) else {

@@ -1,19 +1,19 @@
-//! The values that the sums of a property may have in any state.
+//! The values that the sums of a property can have in any state.
 
 use chip_explore::{Comparison, Item, Relation, Sum};
 use chip_machine::limits::FRAMES;
 
-/// The least and the greatest value of a sum.
+/// The smallest and the greatest value of a sum.
 #[derive(Clone, Copy)]
 struct Range {
     least: u64,
     most: u64,
 }
 
-/// The bounds that show that a comparison always has the same answer.
+/// The bounds that prove that a comparison has the same answer in every state.
 #[derive(Clone, Copy)]
 pub(crate) struct Fixed {
-    /// Whether the left side is the one that is never greater.
+    /// Whether the left side is the side that is never greater.
     is_left_less: bool,
     /// The upper bound of that side.
     pub(crate) most: u64,
@@ -22,7 +22,7 @@ pub(crate) struct Fixed {
 }
 
 impl Fixed {
-    /// Returns the names of the sides: first the side that is never greater.
+    /// Returns the names of the sides, beginning with the side that is never greater.
     pub(crate) fn sides(self) -> (&'static str, &'static str) {
         if self.is_left_less {
             ("left", "right")
@@ -32,12 +32,12 @@ impl Fixed {
     }
 }
 
-/// Returns the bounds that show that a comparison has the same answer in every state. None if the ranges of
-/// its sides don't decide that.
+/// Returns the bounds that prove that a comparison has the same answer in every state. None if the
+/// ranges of its sides don't prove it.
 pub(crate) fn never_changes(comparison: &Comparison) -> Option<Fixed> {
     let (left, right) = (range_of(&comparison.left), range_of(&comparison.right));
-    // If the greatest value of one side equals the least value of the other, only these relations are
-    // decided.
+    // If the greatest value of one side equals the smallest value of the other, the answer is only
+    // fixed for these relations.
     let (is_left_closed, is_right_closed) = match comparison.relation {
         Relation::Equal | Relation::Unequal => (false, false),
         Relation::LessOrEqual | Relation::Greater => (true, false),
@@ -60,7 +60,7 @@ pub(crate) fn never_changes(comparison: &Comparison) -> Option<Fixed> {
     }
 }
 
-/// Returns the least and the greatest value of a sum.
+/// Returns the smallest and the greatest value of a sum.
 fn range_of(sum: &Sum) -> Range {
     let least = u64::from(sum.constant);
     let mut most = least;
@@ -71,7 +71,7 @@ fn range_of(sum: &Sum) -> Range {
     Range { least, most }
 }
 
-/// Returns the greatest value of an item that a property may name.
+/// Returns the greatest value of an item in a property.
 fn most_of(item: Item) -> u64 {
     match item {
         Item::Register(_) | Item::Delay | Item::Byte(_) => 255,

@@ -1,4 +1,4 @@
-//! Sets that arguments ask for: stop causes, keys and warnings.
+//! Sets in the arguments: stop causes, keys and warnings.
 ghost use Rattle.std.specs.Prelude.{◌≡◌, ◌<◌, Some, None, IfOk, IfErr, IfSome, option_copied};
 ghost use Rattle.chip_analysis.specs.Commands.{IsBadSet};
 ghost use Rattle.chip_analysis.specs.Exploring.{AsksCauses, AsksKeys, AsksSet, IsFirstPart, IsSet, key_named, usual_keys, warning_named, with_number};
@@ -12,7 +12,7 @@ use memchr::memchr;
 /// All sixteen keys.
 pub(crate) const ALL_KEYS: u16 = 0xffff;
 
-// The kind of things that the parts of a list name.
+// The kind of thing that each part of a list names.
 #[derive(Clone, Copy)]
 enum Item {
     Cause,
@@ -38,7 +38,7 @@ impl Item {
     }
 }
 
-// Returns the part before the first comma, and the text after the comma, if there is one.
+// Returns the part before the first comma, and the text after the comma if there is one.
 fn first_part(text: &[u8]) -> (&[u8], Option<&[u8]>)
     ensures { IsFirstPart text.now result.0.now (option_copied result.1) }
 {
@@ -48,7 +48,7 @@ fn first_part(text: &[u8]) -> (&[u8], Option<&[u8]>)
     }
 }
 
-// Returns a set with one more number. None if the set or the number is missing.
+// Returns a set with a number added. None if the set or the number is missing.
 fn with_number(set: Option<u16>, number: Option<u32>) -> Option<u16>
     requires { IfSome number (λ k. k < 16) }
     ensures { result ≡ with_number set number }
@@ -59,7 +59,7 @@ fn with_number(set: Option<u16>, number: Option<u32>) -> Option<u16>
     }
 }
 
-// Returns the set of the numbers of a text's parts, each k at bit k. None if a part has no number.
+// Returns the set of the numbers that the parts of a text name, each k at bit k. None if a part names no number.
 fn set_of(item: Item, text: &[u8]) -> Option<u16>
     ensures { IsSet (number_by item) text.now result }
 {
@@ -75,17 +75,17 @@ fn set_of(item: Item, text: &[u8]) -> Option<u16>
     }
 }
 
-/// The sets that the arguments of `explore` ask for.
+/// The sets in the arguments of `explore`.
 #[derive(Clone, Copy)]
 pub(crate) struct Sets {
-    /// The stop causes that are looked for.
+    /// The stop causes that the search looks for.
     pub(crate) causes: Causes,
-    /// The keys that a player has, key k at bit k.
+    /// The keys that the player has, key k at bit k.
     pub(crate) keys: u16,
 }
 
-/// Returns the sets that the arguments ask for. If a place or a property is looked for, no stop is looked for
-/// unless the arguments name some.
+/// Returns the sets in the arguments. If the arguments name a place or a property but no stop
+/// causes, the search looks for no stops.
 pub(crate) fn sets_of<'a>(arguments: &ExploreArguments<'a>) -> Result<Sets, Failure<'a>>
     ensures ok { IfOk result (λ sets. AsksCauses arguments.entry.now (Some sets.causes)
         × AsksKeys arguments.entry.now (Some sets.keys)) }
@@ -110,7 +110,7 @@ pub(crate) fn sets_of<'a>(arguments: &ExploreArguments<'a>) -> Result<Sets, Fail
     }
 }
 
-/// Returns the keys that a player has, key k at bit k: all sixteen without an argument.
+/// Returns the keys that the player has, key k at bit k. Without an argument, these are all sixteen keys.
 pub(crate) fn keys_of<'a>(text: Option<&'a str>) -> Result<u16, Failure<'a>>
     ensures ok { IfOk result (λ set. AsksSet key_named usual_keys (option_copied text.entry)
         (Some set)) }
@@ -126,7 +126,7 @@ pub(crate) fn keys_of<'a>(text: Option<&'a str>) -> Result<u16, Failure<'a>>
     }
 }
 
-/// Returns the warnings that an argument names, Wk at bit k and Pk at bit 9 + k: none without an argument.
+/// Returns the warnings that an argument names, Wk at bit k and Pk at bit 9 + k. Without an argument, there are none.
 pub(crate) fn warnings_of<'a>(text: Option<&'a str>) -> Result<u16, Failure<'a>>
     ensures ok { IfOk result (λ set. AsksSet warning_named 0 (option_copied text.entry)
         (Some set)) }

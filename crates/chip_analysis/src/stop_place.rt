@@ -1,4 +1,4 @@
-//! The place in a source or in an image at which a search found what it looked for.
+//! The place in a source or an image at which a search met its target.
 ghost use Rattle.std.specs.Prelude.{◌<◌};
 
 use chip_asm::{LineView, Source};
@@ -9,9 +9,9 @@ use chip_replay::KEYS;
 use chip_trace::{push_decimal, word_digits};
 use std::alloc::{AllocError, Global};
 
-/// Returns the text after the step at which a machine stopped or broke a property: a comma, and the number
-/// and the statement of the source's line at pc. If no line begins there, the text has the address and the
-/// word instead, as for an image. The text is empty if the search met an address or nothing.
+/// Returns the text to print after the step at which a machine stopped or broke a property: a comma, and
+/// the number and the statement of the source line at pc. If no line begins there, the text shows the
+/// address and the word, as for an image. The text is empty if the search met an address or nothing.
 pub(crate) fn place_text(
     alloc: Global,
     source: &Source,
@@ -31,8 +31,8 @@ pub(crate) fn place_text(
     Ok(line)
 }
 
-/// Returns a comma, and the number and the statement of the source's line at an address. The text is empty if
-/// no line begins there.
+/// Returns a comma, and the number and the statement of the source line at an address. The text is
+/// empty if no line begins there.
 ///
 /// # Errors
 ///
@@ -55,8 +55,8 @@ pub fn line_text(alloc: Global, source: &Source, address: u16) -> Result<Vec<u8>
     Ok(text)
 }
 
-/// Returns the text after that step for the search of an image: a comma, the value of pc, and the source text
-/// of the word there, if a whole word is in the memory.
+/// Returns the text to print after the step in the search of an image: a comma, the value of pc
+/// and, if memory contains a whole word there, its source text.
 pub(crate) fn word_text(
     alloc: Global,
     start: &Machine,
@@ -71,8 +71,8 @@ pub(crate) fn word_text(
     }
 }
 
-/// Returns a colon and the source text of the word at an address before the first step. The text is empty if
-/// no whole word is there.
+/// Returns a colon and the source text of the word that is at an address before the first step. The
+/// text is empty if there is no whole word.
 pub(crate) fn first_word_text(
     alloc: Global,
     start: &Machine,
@@ -83,7 +83,7 @@ pub(crate) fn first_word_text(
     Ok(text)
 }
 
-// Adds a colon and the source text of a word, if there is one.
+// Appends a colon and the source text of a word, if there is one.
 fn push_word(text: &mut Vec<u8>, word: Option<u16>) -> Result<(), AllocError> {
     if let Some(word) = word {
         text.extend_from_slice(b": ")?;
@@ -92,17 +92,17 @@ fn push_word(text: &mut Vec<u8>, word: Option<u16>) -> Result<(), AllocError> {
     Ok(())
 }
 
-// The place of a machine.
+// The place at which a machine is.
 #[derive(Clone, Copy)]
 struct Place {
     // The value of pc.
     address: u16,
-    // The word there. None if the end of the memory cuts it off.
+    // The word at that address. None if the word would reach past the end of memory.
     word: Option<u16>,
 }
 
 impl Place {
-    // Returns a comma, the address, and the source text of the word there, if a whole word is there.
+    // Returns a comma, the address and, if there is a whole word, its source text.
     fn text(&self, alloc: Global) -> Result<Vec<u8>, AllocError> {
         let mut text = Vec::from_slice(alloc, b", ")?;
         text.extend_from_slice(&word_digits(self.address))?;
@@ -111,8 +111,8 @@ impl Place {
     }
 }
 
-// Returns the place at which a machine stopped or broke a property. None for an address that was looked for,
-// because the arguments already name it.
+// Returns the place at which a machine stopped or broke a property. Returns None if nothing was
+// met, or if an address was met, because the arguments already name it.
 fn place_met(start: &Machine, rate: u32, outcome: &Outcome) -> Result<Option<Place>, AllocError>
     requires rate { 0 < rate }
 {
@@ -132,8 +132,8 @@ fn place_met(start: &Machine, rate: u32, outcome: &Outcome) -> Result<Option<Pla
     }
 }
 
-// Returns the place of a machine at a step, under key events in the order of their steps. A replay takes fewer events than a
-// search may find.
+// Returns the place of a machine at a step, given key events in step order. A search may find more events than
+// a replay takes.
 fn place_at(start: &Machine, rate: u32, events: &[KeyEvent], step: u32) -> Result<Place, AllocError>
     requires rate { 0 < rate }
 {
@@ -161,13 +161,13 @@ fn place_at(start: &Machine, rate: u32, events: &[KeyEvent], step: u32) -> Resul
     })
 }
 
-// The keys that are down after an event, key k at bit k.
+// Returns the keys that are down after an event, key k at bit k.
 fn down_after(down: u16, event: &KeyEvent) -> u16 {
     let key = if event.key < KEYS { 1 << event.key } else { 0 };
     if event.down { down | key } else { down & !key }
 }
 
-// Returns the word at an address, if both its bytes are in the memory.
+// Returns the word at an address, if both its bytes lie in memory.
 fn word_at(memory: &[u8], address: u16) -> Option<u16> {
     let at = usize::from(address);
     if at + 1 < memory.len() {
@@ -177,8 +177,8 @@ fn word_at(memory: &[u8], address: u16) -> Option<u16> {
     }
 }
 
-// Returns the text of a line's statement, from its first token after a label to its last. No comment is a
-// token.
+// Returns the text of a line's statement, from the first token after a label to the last token.
+// Comments are not tokens.
 fn statement_of<'a>(alloc: Global, line: &LineView<'a>) -> Result<&'a [u8], AllocError> {
     let tokens = line.tokens(alloc)?;
     let start = match (tokens.get(1), tokens.get(2)) {

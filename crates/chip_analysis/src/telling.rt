@@ -1,4 +1,4 @@
-//! Messages on standard error, for a reader at a terminal, about the source of a command.
+//! Messages on standard error about the source of a command, for a user at a terminal.
 
 use crate::note::write_note;
 use crate::noting::note_on_end;
@@ -7,8 +7,8 @@ use chip_check::{fault_text, unopened_report};
 use chip_host::{Shown, System};
 use std::io::Write;
 
-/// Tells the first fault of a source, as `check` prints it, and how many faults there are. Without faults, tells
-/// whether END hides lines. Nothing is told where standard error fails or memory runs out.
+/// Reports the first fault of a source, as `check` prints it, and the number of faults. Without faults, reports
+/// whether END hides lines. Reports nothing if no user reads standard error, writing fails, or memory runs out.
 pub fn tell_faults<F, E: Write>(
     system: &System<'_, F>,
     name: &str,
@@ -41,14 +41,14 @@ pub fn tell_faults<F, E: Write>(
     };
 }
 
-/// Tells a reader whether END hides lines of a source. Nothing is told where standard error fails.
+/// Reports whether END hides lines of a source. Reports nothing if standard error fails.
 pub fn tell_end<E: Write>(name: &str, source: &Source, errors: &mut E) {
     if let Some((line, note)) = note_on_end(source) {
         let _ = write_note(errors, name, line, note);
     }
 }
 
-// Returns the first line with a fault, and how many lines have one.
+// Returns the number of the first faulty line, and the number of faulty lines.
 fn faulty_lines(source: &Source) -> (Option<usize>, usize) {
     let mut first = None;
     let mut count = 0_usize;
@@ -61,8 +61,8 @@ fn faulty_lines(source: &Source) -> (Option<usize>, usize) {
     (first, count)
 }
 
-/// Tells why a source doesn't open, as `check` prints it. Nothing is told where standard error fails or memory runs
-/// out.
+/// Reports why a source doesn't open, as `check` prints it. Reports nothing if no user reads
+/// standard error, writing fails, or memory runs out.
 pub fn tell_unopened<F, E: Write>(
     system: &System<'_, F>,
     name: &str,

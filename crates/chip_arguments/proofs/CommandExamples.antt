@@ -10,7 +10,7 @@ use Rattle.std.specs.Prelude.{⊤}
 use Rattle.chip_arguments.specs.CommandLine.{asm, check, chipbench, debug, dis, explain, explore, licences, list, picture, prove, run, syms, test, trace, with_search, with_settings, with_steps}
 use Rattle.chip_arguments.proofs.ArgumentRules.{argument_rules}
 
--- what is unfolded to judge arguments that are written out
+-- the definitions to unfold to parse literal arguments
 unfoldable pub chipbench_on_literals : ⊤
 unfolding clap_on_literals argument_rules asm check chipbench debug dis explain explore licences list picture prove run syms test trace with_search with_settings with_steps
 chipbench_on_literals = tt

@@ -1,4 +1,4 @@
--- Which command arguments that `clap` takes name: one of the program's own, and not `help`, which
+-- Arguments that `clap` accepts name one of the program's own commands, and not `help`, which
 -- `clap` answers by itself.
 use Rattle.std.proofs.Common.{◌≡◌, inl, inr, List, [], ◌∷◌, ◌++◌, Bool, true, false, ℕ, Option, Some, None, codes, map, refl, sym, ◌∙◌, ap, subst, fold, ◌||◌, ◌&&◌, if◌then◌else◌, option_map}
 use Rattle.std.proofs.lemmas.Slice.Eq.{bytes_eq-Decides}
@@ -108,7 +108,7 @@ module _ (s : Shape) (names : Names) (helps : s.disable_help_subcommand ≡ fals
 -- ---- the command that was entered
 
 module _ (p : Shape → Bool) where
-  -- what was found is one of the list, and passes the test; if all pass another, it does
+  -- the element that was found is in the list and passes the test; it also passes any test that all elements pass
   found : (q : Shape → Bool) (subs : List Shape) (s : Shape) → list_all q subs ≡ true → find p subs ≡ Some s
       → IsOneOf s.name (map (λ (x : Shape). x.name) subs) × (p s ≡ true) × (q s ≡ true)
   found q [] s all e = absurd (none_some e)
@@ -131,7 +131,7 @@ module _ (p : Shape → Bool) where
           let rest = later all e in
           (inr rest.0, rest.1, rest.2)
 
--- a command without aliases answers to its name alone
+-- a command without aliases answers only to its own name
 named_so : (word : Text) (s : Shape) → has_none s.aliases ≡ true → answers_to word (label_of s) ≡ true → s.name ≡ word
 named_so word s none answers = (bytes_eq-Decides s.name word).0 (by_aliases s.aliases none answers)
   where

@@ -1,4 +1,4 @@
--- Texts that are numbers have only decimal digits.
+-- Texts that are numbers contain only decimal digits.
 use Rattle.std.proofs.Common.{◌≡◌, ◌∙◌, ◌≤◌, ℕ, true, false, List, [], ◌∷◌, refl, sym, arith}
 use Rattle.std.specs.Char.{is_ascii_digit}
 use Rattle.std.specs.List.{list_all}
@@ -15,7 +15,7 @@ digits_are_decimal (c ∷ cs) h =
     let range = digit_from_value c h.0 in
     rw (is_digit c range.0 range.1) (digits_are_decimal cs h.1)
 
--- a text with another byte is no number
+-- a text with any other byte isn't a number
 pub not_a_number : (bits : ℕ) (text : List ℕ) → list_all is_ascii_digit text ≡ false → IsNumber bits text → ⊥
 not_a_number bits text other number =
     let contradiction : true ≡ false = sym (digits_are_decimal text number.0.1) ∙ other in

@@ -1,5 +1,5 @@
--- Words whose first names a command are judged alike by the program with that command alone and by
--- the whole one: both walks stop at the first word, and the command that is entered is the same.
+-- If the first word names a command, the program with only that command parses the arguments in the same way
+-- as the whole program. Both walks stop at the first word and enter the same command.
 use Rattle.std.proofs.Common.{◌≡◌, ◌∙◌, Bool, false, true, List, [], ◌∷◌, Option, Some, codes, get_or, map, option_map, is_some, slice_get, refl, sym, ap, ap₂, subst}
 use Rattle.std.proofs.lemmas.List.{get_or-map}
 use Rattle.std.specs.List.{Contains, find}
@@ -25,7 +25,7 @@ abbrev name_met : App → Text → Option Text
 name_met a word = subcommand_met (names_of a) idle word
 
 module _ (word : Text) (rest : List Text) where
-  -- the faults, by the settings of the program and the command that is entered
+  -- the faults, given the settings of the program and the command that is entered
   abbrev fault_by : Shape → Option Shape → Kinds
   fault_by top command =
       or_else (or_else (or_else (other_fault top (Some word) word nothing_held) []) [])
@@ -44,11 +44,11 @@ module _ (word : Text) (rest : List Text) where
     entered_is : entered a (walk a.top.rules (names_of a) nothing_held (word ∷ rest)).stopped ≡ option_map (λ s. rows_at s rest) (command_of a word)
     entered_is = ap (λ (w : Walk). entered a w.stopped) stops
 
--- the program with the command of a row alone
+-- the program with only the command of a row
 abbrev pub with_one : CommandRow → App
 with_one row = with_subcommand (without_name (with_version (new_app (codes "chipbench")))) (app_of_row row).top
 
--- what a row's name meets in that program and in the whole one, and what that has to be
+-- the results for a row's name in that program and in the whole program, and the required results
 abbrev Facts : Type 0
 Facts = Bool × Shape × Option Shape × Option Text × Option Text
 
@@ -82,7 +82,7 @@ judges row rest same =
           ∙ sym (entered_is word rest all met_all);
     }
 
--- the command of a row is added to the program without commands
+-- adding the command of a row to the program without commands
 pub judged_alone : {rows : List CommandRow} {word : Text} {row : CommandRow} {old sub new : Command} → IsRowOf rows word row
     → app_of old ≡ without_name (with_version (new_app (codes "chipbench"))) → Makes (app_of_row row) sub → map found rows ≡ map wanted rows
     → AddsSubcommand old sub new → (rest : List Text) → JudgesAsAll (word ∷ rest) (app_of new)
@@ -94,7 +94,7 @@ judged_alone {rows} {word} {row} {old} {sub} {new} is alone made each adds rest 
 pub judged_by_all : (word : Text) (command : Command) → app_of command ≡ chipbench → (rest : List Text) → JudgesAsAll (word ∷ rest) (app_of command)
 judged_by_all word command is rest = subst (JudgesAsAll (word ∷ rest)) (sym is) (record { exact = is_exact; fault = refl; command = refl })
 
--- arguments that begin with that word are judged alike
+-- arguments that begin with that word are parsed in the same way
 pub judged_at : {T : Type 0} {word : Text} {app : App} (text : T → Text) (arguments : List T) (first : T) → Some first ≡ slice_get arguments 0 → word ≡ text first
     → ((rest : List Text) → JudgesAsAll (word ∷ rest) app) → JudgesAsAll (map text arguments) app
 judged_at text [] first begins is judges = cc

@@ -1,4 +1,4 @@
--- What the values of a command ask for, from what `clap` reads in them.
+-- What the values of a command ask for, derived from what `clap` reads in them.
 use Rattle.std.proofs.Common.{◌≡◌, inl, inr, ℕ, Bool, Bor, map, true, false, List, [], ◌∷◌, codes, Option, Some, None, Result, Ok, Err, IfOk, option_map, unwrap_or, refl, sym, ◌∙◌, ap, ap₂, subst}
 use Rattle.clap.proofs.WalkLemmas.{both, first_value-rows, one_text-rows}
 use Rattle.clap.specs.Kinds.{FailsBy, HasKind, IsAmong, Kinds, or_else}
@@ -37,14 +37,14 @@ still_fails kinds next e (inl m) = inl m
 still_fails kinds next e (inr h) = inr (still_among (kind_of e) kinds next h)
 
 module _ {T : Type 0} where
-  -- what `clap` refuses is refused
+  -- arguments that `clap` rejects are rejected
   pub fails_by_clap : (arguments : List (List ℕ)) (result : Result T Error) (e : Error) → result ≡ Err e →
       FailsBy (fault_of chipbench arguments) result → FailsBy (argument_faults arguments) result
   unfolding argument_faults
   fails_by_clap arguments (Ok x) e h f = cc
   fails_by_clap arguments (Err x) e h f = still_fails (fault_of chipbench arguments) (faults_below (subcommand_of chipbench arguments)) x f
 
--- what `clap` takes is judged by its values
+-- if `clap` accepts arguments, their faults are those of their values
 judged_by : (arguments : List (List ℕ)) (command : Option (List ℕ × List Row)) → fault_of chipbench arguments ≡ [] →
     subcommand_of chipbench arguments ≡ command → argument_faults arguments ≡ faults_below command
 unfolding argument_faults
@@ -89,8 +89,8 @@ pub none_named : {X : Type 0} (o : Option X) (f : X → List ℕ) (g : X → Lis
 none_named None f g h = refl
 none_named (Some x) f g h = cc
 
--- the command that arguments name, by the matches that `clap` answers of a program that names the
--- same
+-- the command that arguments name, given the matches that `clap` returns for a program that names
+-- the same command
 pub subcommand_named : {app : App} (arguments : List (List ℕ)) (m : ArgMatches) (name : List ℕ) (rows : List Row) → JudgesAsAll arguments app →
     HasMatchesOf app arguments m → Some name ≡ subcommand_name_of m →
     Some rows ≡ option_map (λ (p : List ℕ × List Row). p.1) (subcommand_rows_of m) → subcommand_of chipbench arguments ≡ Some (name, rows)
@@ -104,7 +104,7 @@ subcommand_none {app} arguments m judges has r =
     sym judges.command ∙ sym ((has (both (is_simple app) _ judges.exact).0).1)
     ∙ none_named (out-ArgMatches m).subcommand (λ b. (out-SubCommand (box_value b)).name.now) (λ b. rows_of (found_of (out-SubCommand (box_value b)).matches)) r
 
--- the texts of an argument, where none stand for no argument
+-- the texts of an argument; an empty list means that the argument is missing
 pub texts_are : (found : Option (Bor (List (Bor (List ℕ))))) (none : Bor (List (Bor (List ℕ)))) (texts : Option (List (List ℕ))) → none.now ≡ [] →
     option_map (λ s. map (λ v. v.now) s.now) found ≡ texts → map (λ v. v.now) (unwrap_or found none).now ≡ unwrap_or texts []
 texts_are None none texts nothing is = ap (map (λ v. v.now)) nothing ∙ ap (λ (t : Option (List (List ℕ))). unwrap_or t []) is

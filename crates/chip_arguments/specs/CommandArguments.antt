@@ -1,4 +1,4 @@
--- The command that the arguments ask for, by the values that `clap` finds in them (chosen by this project).
+-- The command that the arguments ask for, given the values that `clap` finds in them (chosen by this project).
 use Rattle.std.specs.Prelude.{◌≡◌, ℕ, ◌<◌, ◌^◌, Bool, true, false, List, [], ◌∷◌, codes, map, Option, Some, None, option_copied, is_some, unwrap_or, if◌then◌else◌}
 use Rattle.std.specs.Char.{is_ascii_digit}
 use Rattle.std.specs.List.{list_all}
@@ -33,7 +33,7 @@ numbers =
     codes "steps" ∷ codes "states" ∷ codes "memory" ∷ codes "from" ∷ codes "rate" ∷ codes "seed"
     ∷ codes "every" ∷ codes "only" ∷ codes "seconds" ∷ codes "scale" ∷ []
 
--- the fault of a number with anything but decimal digits, such as a sign
+-- the fault of a number that contains anything except decimal digits, such as a sign
 abbrev pub number_fault : Option (List ℕ) → Kinds
 number_fault None = []
 number_fault (Some text) =
@@ -43,19 +43,19 @@ number_fault (Some text) =
 abbrev pub new_files : List (List ℕ)
 new_files = codes "output" ∷ codes "pbm" ∷ codes "png" ∷ codes "keys-to" ∷ []
 
--- the fault of a file to write whose name stands for standard output
+-- the fault of a file to write whose name means standard output
 abbrev pub new_file_fault : Option (List ℕ) → Kinds
 new_file_fault None = []
 new_file_fault (Some name) =
     if bytes_eq name (codes "-") then kind.InvalidValue ∷ [] else []
 
--- the fault of a flag that is set beside an argument that it does not go with
+-- the fault of a flag that is set together with an argument that can't be combined with it
 abbrev pub clash_fault : (flag other : Option (List ℕ)) → Kinds
 clash_fault (Some value) (Some text) =
     if bytes_eq value (codes "true") then kind.ArgumentConflict ∷ [] else []
 clash_fault flag other = []
 
--- the fault of two arguments that don't go together
+-- the fault of two arguments that can't be used together
 abbrev pub both_fault : (first second : Option (List ℕ)) → Kinds
 both_fault (Some one) (Some other) = kind.ArgumentConflict ∷ []
 both_fault first second = []
@@ -65,8 +65,8 @@ abbrev pub scale_fault : (scale bitmap png : Option (List ℕ)) → Kinds
 scale_fault (Some scale) None None = kind.MissingRequiredArgument ∷ []
 scale_fault scale bitmap png = []
 
--- the first fault of arguments beside others: JSON and another trace, ASCII and a file for the picture, and
--- two properties don't go together, and a scale needs a file for the picture
+-- the first fault of arguments that can't be used together: JSON and another trace, ASCII and a file for
+-- the picture, two properties, or a scale without a file for the picture
 abbrev pub clash_faults : List Row → Kinds
 clash_faults rows =
     or_else (clash_fault (first_of (codes "json") rows) (first_of (codes "against") rows))
@@ -75,12 +75,12 @@ clash_faults rows =
     (or_else (both_fault (first_of (codes "never") rows) (first_of (codes "always") rows))
     (scale_fault (first_of (codes "scale") rows) (first_of (codes "pbm") rows) (first_of (codes "png") rows)))))
 
--- the fault of a profile that doesn't exist, or of a list that isn't one of choices of quirks
+-- the fault of a profile that doesn't exist, or of a list that isn't a list of choices of quirks
 abbrev pub quirks_fault : (name list : Option (List ℕ)) → Kinds
 quirks_fault name list =
     if is_some (quirks_asked name list) then [] else kind.InvalidValue ∷ []
 
--- the fault of an unknown word for when there are colours
+-- the fault of an unknown word for the choice of colours
 abbrev pub color_fault : Option (List ℕ) → Kinds
 color_fault None = []
 color_fault (Some word) =
@@ -93,7 +93,7 @@ abbrev pub first_value_fault : (Option (List ℕ) → Kinds) → List (List ℕ)
 first_value_fault fault [] rows = []
 first_value_fault fault (id ∷ ids) rows = or_else (fault (first_of id rows)) (first_value_fault fault ids rows)
 
--- the kinds of fault of values that `clap` takes and the program doesn't
+-- the kinds of fault of values that `clap` accepts and the program doesn't
 abbrev pub value_faults : List Row → Kinds
 value_faults rows =
     or_else (first_value_fault number_fault numbers rows)
@@ -112,18 +112,18 @@ unfoldable pub argument_faults : List (List ℕ) → Kinds
 argument_faults arguments =
     or_else (fault_of chipbench arguments) (faults_below (subcommand_of chipbench arguments))
 
--- a text of decimal digits, of a number that fits in that many bits
+-- a text of decimal digits whose number fits in that many bits
 abbrev pub IsNumber : ℕ → List ℕ → Type 0
 IsNumber bits text = IsNumeral 10 text × (digits_value 10 text < 2 ^ bits)
 
--- the number that a text stands for, if there is a text and it is a number
+-- the number that a text represents, if there is a text and it is a number
 abbrev pub ReadsNumber : ℕ → Option (List ℕ) → Option ℕ → Type 0
 ReadsNumber bits None number = number ≡ None
 ReadsNumber bits (Some text) None = IsNumber bits text → ⊥
 ReadsNumber bits (Some text) (Some number) =
     IsNumber bits text × (number ≡ digits_value 10 text)
 
--- the number that a text stands for, or otherwise the default
+-- the number that a text represents, or otherwise the default
 pub record ReadsOr (bits : ℕ) (text : Option (List ℕ)) (default number : ℕ) : Type 0 where
   pub read : Option ℕ
   pub reads : ReadsNumber bits text read
@@ -142,7 +142,7 @@ pub record AsksSettings (rows : List Row) (arguments : SettingArguments) : Type 
   pub quirks : AsksQuirks rows arguments.quirks
   pub spacing : ReadsOr 32 (first_of (codes "every") rows) LEAST_SPACING arguments.spacing
 
--- the text of a value that the arguments can't lack
+-- the text of a required value
 abbrev pub needed : List ℕ → List Row → List ℕ
 needed id rows = unwrap_or (first_of id rows) []
 
@@ -160,7 +160,7 @@ pub record AsksRun (rows : List Row) (arguments : RunArguments) : Type 0 where
   pub keys : option_copied arguments.keys ≡ first_of (codes "keys") rows
   pub settings : AsksSettings rows arguments.settings
 
--- when there are colours; without a word, the program decides
+-- the choice of colours that a word names; if there is no word, the program decides
 abbrev pub color_asked : Option (List ℕ) → ColorChoice
 color_asked None = Auto
 color_asked (Some word) =
@@ -200,7 +200,7 @@ pub record AsksTest (rows : List Row) (arguments : TestArguments) : Type 0 where
   pub is_update : AsksFlag (one_of (codes "update") rows) arguments.is_update
   pub is_tap : AsksFlag (one_of (codes "tap") rows) arguments.is_tap
 
--- the way of searching that the values of a command ask for
+-- the settings of a search that the values of a command ask for
 pub record AsksSearch (rows : List Row) (arguments : SearchArguments) : Type 0 where
   pub source : arguments.source.now ≡ needed (codes "source") rows
   pub steps : ReadsNumber 32 (first_of (codes "steps") rows) arguments.steps
@@ -231,7 +231,7 @@ pub record AsksProve (rows : List Row) (arguments : ProveArguments) : Type 0 whe
   pub only : ReadsNumber 32 (first_of (codes "only") rows) arguments.only
   pub is_json : AsksFlag (one_of (codes "json") rows) arguments.is_json
 
--- The command that the values of a command of that name ask for.
+-- The command that the name and the values of a command ask for.
 abbrev pub Asks : List ℕ → List Row → CommandLine → Type 0
 Asks name rows (line.Asm source image) =
     (name ≡ codes "asm") × (source.now ≡ needed (codes "source") rows)
@@ -259,8 +259,8 @@ Asks name rows (line.Debug source is_image is_quiet settings) =
     × AsksFlag (one_of (codes "image") rows) is_image
     × AsksFlag (one_of (codes "quiet") rows) is_quiet × AsksSettings rows settings
 
--- the command that the arguments ask for, by the command that they name; without a command, a session on the
--- empty source
+-- the command that the arguments ask for, given the command that they name; if they name none, a session on
+-- the empty source
 abbrev pub AsksBy : Option (List ℕ × List Row) → CommandLine → Type 0
 AsksBy None asked = asked ≡ line.Debug None false false default_arguments
 AsksBy (Some command) asked = Asks command.0 command.1 asked

@@ -1,5 +1,5 @@
--- The command line of the program, as `clap` sees it (chosen by this project). Clauses name commands and
--- arguments by these definitions, which are unfolded where they are used.
+-- The command line of the program, as `clap` sees it (chosen by this project). Clauses refer to commands
+-- and arguments by these definitions, which are unfolded at each use.
 use Rattle.std.specs.Prelude.{ℕ, List, [], ◌∷◌, Some, codes, true, pos}
 use Rattle.clap.specs.Words.{App, Rule, new_app, new_rule, with_rule, with_subcommand}
 use Rattle.chip_replay.specs.declared.limits.TheConstants.{LAST_STEP, LEAST_SPACING, MOST_RATE, MOST_SPACING}
@@ -19,7 +19,7 @@ option name = record (new_rule name) { long = Some name; value_names = 1 }
 abbrev pub number : List ℕ → (least most : ℕ) → Rule
 number name least most = record (option name) { parser = Some (vp.Signed (pos least) (pos most)) }
 
--- an argument that is known by its place alone
+-- a positional argument
 abbrev pub place : List ℕ → Rule
 place name = record (new_rule name) { value_names = 1; action = Some Set }
 
@@ -49,18 +49,18 @@ tape = option (codes "tape")
 unfoldable pub seed : Rule
 seed = record (option (codes "seed")) { parser = Some (vp.Unsigned 0 18446744073709551615) }
 
--- any text: the names of the profiles are not part of what `clap` judges
+-- any text, because `clap` doesn't check the names of the profiles
 unfoldable pub profile : Rule
 profile = option (codes "profile")
 
--- any text: the choices of quirks are not part of what `clap` judges
+-- any text, because `clap` doesn't check the choices of quirks
 unfoldable pub quirks : Rule
 quirks = option (codes "quirks")
 
 unfoldable pub every : Rule
 every = number (codes "every") LEAST_SPACING MOST_SPACING
 
--- the flag that says that SOURCE is an image
+-- the flag that marks SOURCE as an image
 unfoldable pub as_image : Rule
 as_image = flag (codes "image")
 
@@ -68,7 +68,7 @@ unfoldable pub with_settings : App → App
 with_settings app =
     with_rule (with_rule (with_rule (with_rule (with_rule app rate) tape) seed) profile) quirks
 
--- the flag that switches off the messages at a terminal besides the answers
+-- the flag that switches off messages at a terminal, except for the answers
 unfoldable pub quiet : Rule
 quiet = flag (codes "quiet")
 
@@ -102,15 +102,15 @@ allow = option (codes "allow")
 unfoldable pub sources : Rule
 sources = record (place (codes "sources")) { action = Some Append; required = true }
 
--- any text: the arguments for when there are colours are not part of what `clap` judges
+-- any text, because `clap` doesn't check the choice of colours
 unfoldable pub color : Rule
 color = option (codes "color")
 
--- the flag that asks for what key scripts execute
+-- the flag that asks which instructions key scripts execute
 unfoldable pub cover : Rule
 cover = flag (codes "cover")
 
--- after how many seconds a search ends
+-- the number of seconds after which a search ends
 unfoldable pub seconds : Rule
 seconds = number (codes "seconds") 1 MOST_SECONDS
 
@@ -160,7 +160,7 @@ hash = flag (codes "hash")
 unfoldable pub against : Rule
 against = option (codes "against")
 
--- the arguments that say which run it is
+-- the arguments that describe a run
 unfoldable pub with_steps : App → App
 with_steps app =
     with_rule (with_rule (with_settings (with_rule (with_rule app needed_source) steps)) keys) as_image
@@ -181,14 +181,14 @@ picture =
 unfoldable pub test : App
 test = with_rule (with_rule (with_rule (new_app (codes "test")) files) update) tap
 
--- the step to which a search goes
+-- the step up to which a search goes
 unfoldable pub search_steps : Rule
 search_steps = number (codes "steps") 0 LAST_STEP
 
 unfoldable pub states : Rule
 states = record (number (codes "states") 1 MOST_STATES) { defaults = codes "1000000" ∷ [] }
 
--- the most megabytes that a search holds
+-- the maximum number of megabytes that a search uses
 unfoldable pub memory : Rule
 memory = record (number (codes "memory") 1 MOST_MEMORY) { defaults = codes "1000" ∷ [] }
 
@@ -212,11 +212,11 @@ never = option (codes "never")
 unfoldable pub always : Rule
 always = option (codes "always")
 
--- the line of the only property that is answered
+-- the line of the only property to answer
 unfoldable pub only : Rule
 only = number (codes "only") 1 MOST_LINE
 
--- the flag for a second search, of the deepest states first
+-- the flag for a second search, deepest states first
 unfoldable pub deep : Rule
 deep = flag (codes "deep")
 
@@ -231,7 +231,7 @@ no_facts = flag (codes "no-facts")
 unfoldable pub progress : Rule
 progress = flag (codes "progress")
 
--- the arguments that say how a search goes
+-- the arguments that control a search
 unfoldable pub with_search : App → App
 with_search app =
     with_rule (with_rule (with_rule (with_rule (with_rule (with_rule (with_rule (with_rule (with_rule (with_rule (with_rule app

@@ -1,4 +1,4 @@
--- The settings that the arguments ask for if they do not set them (chosen by this project).
+-- The settings if the arguments don't set them (chosen by this project).
 use Rattle.std.specs.Prelude.{None}
 use Rattle.chip_machine.specs.Profile.{quirks}
 use Rattle.chip_machine.specs.declared.profile.Profile.TheVariants.{Schip}

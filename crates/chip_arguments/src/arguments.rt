@@ -64,7 +64,7 @@ pub(crate) enum Argument {
 }
 
 impl Argument {
-    /// Returns the argument as `clap` takes it.
+    /// Returns the argument in the form that `clap` takes.
     #[tactic(auto, unfolding(crate::proofs::ArgumentRules::argument_rules))]
     pub(crate) fn build<'a>(self, alloc: Global) -> Arg<'a>
         ensures rule { rule_of result ≡ rule_by self }
@@ -131,7 +131,7 @@ impl Argument {
         }
     }
 
-    // Returns the text of the argument in the help.
+    // Returns the help text of the argument.
     fn help<'a>(self) -> &'a str {
         match self {
             Argument::Source => "The source to begin with [default: the empty source]",
@@ -271,7 +271,7 @@ fn flag<'a>(alloc: Global, name: &'a str, help: &'a str) -> Arg<'a>
         .action(ArgAction::SetTrue)
 }
 
-// Returns an argument that is known by its place alone.
+// Returns a positional argument.
 fn place<'a>(alloc: Global, name: &'a str, value: &'a str, help: &'a str) -> Arg<'a>
     ensures rule { rule_of result ≡ line.place name.entry.now }
     ensures local { result.global ≡ false }

@@ -1,4 +1,4 @@
-//! The arguments after the program's name, read into what they ask for.
+//! Parses the arguments after the program's name.
 ghost use Rattle.std.specs.Prelude.{◌≡◌, [], Ok, None, Some, false, IfOk, map, option_copied, unwrap_or, codes};
 ghost use Rattle.std.specs.Char.{is_ascii_digit};
 ghost use Rattle.std.specs.List.{list_all};
@@ -20,7 +20,7 @@ use std::convert::AsStr;
 
 const DEFAULT_RATE: u32 = 10;
 
-// The arguments that are numbers, each as `clap` shows it in a fault.
+// The arguments that are numbers, each with the form in which `clap` shows it in a fault.
 const NUMBERS: [(&str, &str); 10] = [
     ("steps", "--steps <N>"),
     ("states", "--states <M>"),
@@ -34,7 +34,7 @@ const NUMBERS: [(&str, &str); 10] = [
     ("scale", "--scale <K>"),
 ];
 
-// The arguments that name a file to write, each as a fault shows it.
+// The arguments that name a file to write, each with the form in which a fault shows it.
 const NEW_FILES: [(&str, &str); 4] = [
     ("output", "IMAGE"),
     ("pbm", "--pbm"),
@@ -42,64 +42,64 @@ const NEW_FILES: [(&str, &str); 4] = [
     ("keys-to", "--keys-to"),
 ];
 
-/// A command with its arguments: what the program is asked to do.
+/// A command of the program, with its arguments.
 #[derive(Drop)]
 pub enum CommandLine<'a> {
-    /// To answer a script.
+    /// Answers a script.
     Debug {
         source: Option<&'a str>,
         /// Whether the source is given as an image.
         is_image: bool,
-        /// Whether the messages at a terminal, besides the answers, are switched off.
+        /// Whether messages at a terminal, except for the answers, are switched off.
         is_quiet: bool,
         settings: SettingArguments<'a>,
     },
-    /// To write the image of a source to a file.
+    /// Writes the image of a source to a file.
     Asm {
         source: &'a str,
         image: &'a str,
     },
-    /// To print the listing of a source.
+    /// Prints the listing of a source.
     List {
         source: &'a str,
         /// Whether the source is given as an image.
         is_image: bool,
-        /// Whether values are hexadecimal.
+        /// Whether values are printed in hexadecimal.
         is_hex: bool,
     },
-    /// To print the names of a source with their values and lines.
+    /// Prints the names of a source with their values and lines.
     Syms {
         source: &'a str,
-        /// Whether values are hexadecimal.
+        /// Whether values are printed in hexadecimal.
         is_hex: bool,
     },
-    /// To print the faults of sources with their places.
+    /// Prints the faults of sources with their places.
     Check(CheckArguments<'a>),
-    /// To print a source of an image.
+    /// Prints a source for an image.
     Dis {
         image: &'a str,
     },
-    /// To run a source's image.
+    /// Runs a source's image.
     Run(RunArguments<'a>),
-    /// To print a line for each step of a run, or to compare the lines with those of a file.
+    /// Prints a line for each step of a run, or compares the lines with the lines of a file.
     Trace(TraceArguments<'a>),
-    /// To print the screen of a source's image, or to write it as a picture.
+    /// Prints the screen of a source's image, or writes the screen as a picture.
     Picture(PictureArguments<'a>),
-    /// To compare the answers of sessions with those that files expect.
+    /// Compares the answers of sessions with the expected answers in files.
     Test(TestArguments<'a>),
-    /// To search all key scripts for one that makes a source's image stop, or reach a place.
+    /// Searches all key scripts for one that makes a source's image stop or reach a place.
     Explore(ExploreArguments<'a>),
-    /// To answer the properties that a source states.
+    /// Answers the properties that a source states.
     Prove(ProveArguments<'a>),
-    /// To print the page on a code, or the codes.
+    /// Prints the page on a code, or the list of codes.
     Explain {
         code: Option<&'a str>,
     },
-    /// To print the licences of the program and of what is linked into it.
+    /// Prints the licences of the program and of everything that is linked into it.
     Licences,
 }
 
-/// A check, as the arguments ask for it.
+/// The arguments of a check.
 #[derive(Drop)]
 pub struct CheckArguments<'a> {
     /// The sources, in the order of the arguments.
@@ -108,7 +108,7 @@ pub struct CheckArguments<'a> {
     pub is_json: bool,
     /// The warnings to leave out, separated by commas.
     pub allowed: Option<&'a str>,
-    /// When the text has colours.
+    /// When to colour the text.
     pub color: ColorChoice,
     /// The machine for which the sources are written, and its tape.
     pub settings: SettingArguments<'a>,
@@ -118,16 +118,16 @@ pub struct CheckArguments<'a> {
     pub seconds: Option<u32>,
 }
 
-/// When a text has colours.
+/// When to colour a text.
 #[derive(Clone, Copy)]
 pub enum ColorChoice {
-    /// If the output takes colours.
+    /// If the output supports colours.
     Auto,
     Always,
     Never,
 }
 
-/// A run, as the arguments ask for it.
+/// The arguments of a run.
 #[derive(Clone, Copy)]
 pub struct RunArguments<'a> {
     pub source: &'a str,
@@ -139,7 +139,7 @@ pub struct RunArguments<'a> {
     pub settings: SettingArguments<'a>,
 }
 
-/// A trace, as the arguments ask for it.
+/// The arguments of a trace.
 #[derive(Clone, Copy)]
 pub struct TraceArguments<'a> {
     /// The run that is traced.
@@ -150,14 +150,14 @@ pub struct TraceArguments<'a> {
     pub sums: bool,
     /// Whether JSON objects are printed instead of fields.
     pub is_json: bool,
-    /// The file of the trace that the run is compared with.
+    /// The file that contains the trace to compare the run with.
     pub against: Option<&'a str>,
 }
 
-/// A picture, as the arguments ask for it.
+/// The arguments of a picture.
 #[derive(Clone, Copy)]
 pub struct PictureArguments<'a> {
-    /// The run whose last step is pictured.
+    /// The run whose last step the picture shows.
     pub run: RunArguments<'a>,
     /// Whether the picture is printed in ASCII instead of half blocks.
     pub ascii: bool,
@@ -165,49 +165,49 @@ pub struct PictureArguments<'a> {
     pub bitmap: Option<&'a str>,
     /// The file for a PNG picture.
     pub png: Option<&'a str>,
-    /// The scale of pictures in files: how many times as long their sides are as those of the screen.
+    /// The scale of pictures in files: the side of the square, in pixels, that shows a pixel of the screen.
     pub scale: u32,
 }
 
-/// A test, as the arguments ask for it.
+/// The arguments of a test.
 #[derive(Drop)]
 pub struct TestArguments<'a> {
     /// The files of cases, in the order of the arguments.
     pub files: Vec<&'a str>,
-    /// Whether the answers that are given are written into the files.
+    /// Whether the actual answers are written into the files.
     pub is_update: bool,
-    /// Whether the report is in the form of the Test Anything Protocol.
+    /// Whether the report is in the format of the Test Anything Protocol.
     pub is_tap: bool,
 }
 
-/// A search over all key scripts, as the arguments ask for it.
+/// The arguments of a search over all key scripts.
 #[derive(Clone, Copy)]
 pub struct SearchArguments<'a> {
     pub source: &'a str,
-    /// The step to which the search goes, 0 to 1000000.
+    /// The step up to which the search goes, 0 to 1000000.
     pub steps: Option<u32>,
-    /// The most states that the search keeps.
+    /// The maximum number of states that the search stores.
     pub states: u32,
-    /// The most megabytes (of 1,000,000 bytes) that the search holds.
+    /// The maximum memory of the search, in megabytes (of 1,000,000 bytes).
     pub memory: u32,
     /// The number of seconds after which the search ends, 1 to 1000000.
     pub seconds: Option<u32>,
-    /// Whether a second search, of the deepest states first, follows once the first keeps the most states.
+    /// Whether a second search, deepest states first, follows if the first search stores the maximum of states.
     pub is_deep: bool,
     /// Whether to report an answer of `never` at any speed, for which the search may use all states.
     pub is_any_speed: bool,
-    /// The keys that a player has, separated by commas.
+    /// The keys that a player can use, separated by commas.
     pub allowed_keys: Option<&'a str>,
-    /// The file for the key events of a script that was found.
+    /// The file for the key events of the script that the search finds.
     pub keys_to: Option<&'a str>,
-    /// Whether standard error shows how far the search is.
+    /// Whether standard error shows the progress of the search.
     pub is_progress_shown: bool,
     /// Whether the search begins at once, without asking for facts first.
     pub is_without_facts: bool,
     pub settings: SettingArguments<'a>,
 }
 
-/// The search of `explore`, as the arguments ask for it.
+/// The arguments of `explore`.
 #[derive(Clone, Copy)]
 pub struct ExploreArguments<'a> {
     pub search: SearchArguments<'a>,
@@ -215,30 +215,30 @@ pub struct ExploreArguments<'a> {
     pub is_image: bool,
     /// The stop causes to look for, separated by commas.
     pub causes: Option<&'a str>,
-    /// The place that is looked for: a name of the source, or an address after `#`.
+    /// The place to look for: a name of the source, or an address after `#`.
     pub place: Option<&'a str>,
-    /// The condition that is never to hold, with its place.
+    /// The condition that must never hold, with its place.
     pub never: Option<&'a str>,
-    /// The condition that is always to hold, with its place.
+    /// The condition that must always hold, with its place.
     pub always: Option<&'a str>,
-    /// Whether the listing is printed, with marks at what is executed.
+    /// Whether the listing is printed, with marks before the executed lines.
     pub is_covering: bool,
 }
 
-/// The proof of `prove`, as the arguments ask for it.
+/// The arguments of `prove`.
 #[derive(Clone, Copy)]
 pub struct ProveArguments<'a> {
     pub search: SearchArguments<'a>,
-    /// The line of the only property that is answered, 1 to 1000000.
+    /// The line of the only property to answer, 1 to 1000000.
     pub only: Option<u32>,
     /// Whether JSON objects are printed instead of text.
     pub is_json: bool,
 }
 
-/// The settings, as the arguments give them.
+/// The settings in the arguments.
 #[derive(Clone, Copy)]
 pub struct SettingArguments<'a> {
-    /// The number of steps to a tick, 1 to 1000.
+    /// The number of steps per tick, 1 to 1000.
     pub rate: u32,
     /// The tape in hexadecimal.
     pub tape: Option<&'a str>,
@@ -261,7 +261,7 @@ impl<'a> SettingArguments<'a> {
     };
 }
 
-// The command of a program that is given none: a session on the empty source.
+// The command that runs if the arguments name none: a session on the empty source.
 const EMPTY_SESSION: CommandLine<'static> = CommandLine::Debug {
     source: None,
     is_image: false,
@@ -273,7 +273,7 @@ const EMPTY_SESSION: CommandLine<'static> = CommandLine::Debug {
 ///
 /// # Errors
 ///
-/// A fault of the arguments, a request for help, or that memory ran out.
+/// A fault of the arguments, a request for help, or out of memory.
 pub fn parse_arguments<'a, S: AsStr>(
     alloc: Global,
     arguments: &'a [S],
@@ -292,7 +292,7 @@ pub fn parse_arguments<'a, S: AsStr>(
     }
 }
 
-// Returns what the values of a command of that name ask for. The last arm is that of `debug`.
+// Returns the command with this name and these values. The last arm is for `debug`.
 fn command_asked<'a>(
     alloc: Global,
     name: &str,
@@ -340,7 +340,7 @@ fn command_asked<'a>(
     }
 }
 
-// Judges the values that `clap` takes and the program doesn't, and returns the quirks that they name.
+// Checks for values that `clap` accepts and the program doesn't, and returns the quirks that the values name.
 fn judged(alloc: Global, found: &ArgMatches<'_>) -> Result<Quirks, Error>
     ensures quirks { IfOk result (AsksQuirks (rows_in found.now)) }
     ensures fault { FailsBy (value_faults (rows_in found.now)) result }
@@ -352,7 +352,7 @@ fn judged(alloc: Global, found: &ArgMatches<'_>) -> Result<Quirks, Error>
     quirks_asked(alloc, found)
 }
 
-// Refuses numbers with anything but decimal digits, because `clap` takes a sign before the digits.
+// Rejects numbers that contain anything except decimal digits, because `clap` accepts a sign before the digits.
 fn check_numbers(
     alloc: Global,
     found: &ArgMatches<'_>,
@@ -367,7 +367,7 @@ fn check_numbers(
     Ok(())
 }
 
-// Refuses `-` as the name of a file to write.
+// Rejects `-` as the name of a file to write.
 fn check_new_files(
     alloc: Global,
     found: &ArgMatches<'_>,
@@ -382,7 +382,7 @@ fn check_new_files(
     Ok(())
 }
 
-// Refuses arguments that do not go together, and one that lacks those that it needs.
+// Rejects arguments that can't be used together, and an argument without the ones that it needs.
 fn check_clashes(alloc: Global, found: &ArgMatches<'_>) -> Result<(), Error>
     ensures { FailsBy (clash_faults (rows_in found.now)) result }
 {
@@ -396,7 +396,7 @@ fn check_clashes(alloc: Global, found: &ArgMatches<'_>) -> Result<(), Error>
     check_scale(alloc, found)
 }
 
-// Refuses a flag together with an argument that it does not go with.
+// Rejects a flag together with an argument that can't be combined with it.
 fn check_clash(
     alloc: Global,
     found: &ArgMatches<'_>,
@@ -415,7 +415,7 @@ fn check_clash(
     }
 }
 
-// Refuses two properties, because a search takes one.
+// Rejects two properties, because a search takes only one.
 fn check_both(alloc: Global, found: &ArgMatches<'_>) -> Result<(), Error>
     ensures { FailsBy (both_fault (first_of (codes "never") (rows_in found.now))
         (first_of (codes "always") (rows_in found.now))) result }
@@ -429,7 +429,7 @@ fn check_both(alloc: Global, found: &ArgMatches<'_>) -> Result<(), Error>
     }
 }
 
-// Refuses a scale without a file for the picture, because only pictures in files are scaled.
+// Rejects a scale without a file for the picture, because only pictures in files are scaled.
 fn check_scale(alloc: Global, found: &ArgMatches<'_>) -> Result<(), Error>
     ensures { FailsBy (scale_fault (first_of (codes "scale") (rows_in found.now))
         (first_of (codes "pbm") (rows_in found.now)) (first_of (codes "png") (rows_in found.now)))
@@ -488,7 +488,7 @@ fn check_color(alloc: Global, found: &ArgMatches<'_>) -> Result<(), Error>
     }
 }
 
-// Whether a text has only decimal digits.
+// Whether a text contains only decimal digits.
 fn is_decimal(text: &str) -> bool
     ensures { result ≡ list_all is_ascii_digit text.now }
 {
@@ -506,14 +506,14 @@ pub fn not_text(alloc: Global) -> Result<Error, AllocError>
     )
 }
 
-// Returns a fault of the arguments that `clap` doesn't find.
+// Returns a fault of the arguments that `clap` doesn't detect.
 fn usage_error(alloc: Global, kind: ErrorKind, message: &str) -> Result<Error, AllocError>
     ensures { IfOk result (λ error. kind_of error ≡ kind) }
 {
     chipbench(alloc)?.error(kind, message)
 }
 
-// Returns the quirks of a profile, which is SUPER-CHIP without a name, except for those that a list chooses.
+// Returns the quirks of the named profile, or of SUPER-CHIP if none is named, changed by the choices in a list.
 fn quirks_asked(alloc: Global, found: &ArgMatches<'_>) -> Result<Quirks, Error>
     ensures asked { IfOk result (AsksQuirks (rows_in found.now)) }
     ensures fault { FailsBy (quirks_fault (first_of (codes "profile") (rows_in found.now))
@@ -547,7 +547,7 @@ fn value<'a>(found: &ArgMatches<'a>, id: &str) -> Option<&'a str>
     found.get_str(id)
 }
 
-// Returns the text of an argument without which `clap` refuses the arguments.
+// Returns the text of an argument that `clap` requires.
 fn required_text<'a>(found: &ArgMatches<'a>, id: &str) -> &'a str
     ensures { result.now ≡ needed id.now (rows_in found.now) }
 {
@@ -581,8 +581,8 @@ fn number_or(found: &ArgMatches<'_>, id: &str, default: u32) -> u32
     number_of(found, id).unwrap_or(default)
 }
 
-/// Returns the number that a text of decimal digits stands for, if it fits in 32 bits. None for any other
-/// text.
+/// Returns the number that a text of decimal digits represents, if the number fits in 32 bits. Returns
+/// `None` for any other text.
 pub fn number(text: Option<&str>) -> Option<u32>
     ensures { ReadsNumber 32 (option_copied text.entry) result }
 {
@@ -594,7 +594,7 @@ pub fn number(text: Option<&str>) -> Option<u32>
     }
 }
 
-/// Returns the seed that a text of decimal digits stands for, if it fits in 64 bits. None for any other text.
+/// Returns the seed that a text of decimal digits represents, if it fits in 64 bits, and otherwise `None`.
 pub fn seed(text: Option<&str>) -> Option<u64>
     ensures { ReadsNumber 64 (option_copied text.entry) result }
 {
@@ -636,7 +636,7 @@ fn check_arguments<'a>(
     })
 }
 
-// Returns when the text has colours, by the word for it.
+// Returns the choice of colours that a word names.
 fn color_asked(word: Option<&str>) -> ColorChoice
     ensures { result ≡ color_asked (option_copied word.entry) }
 {

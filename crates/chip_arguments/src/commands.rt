@@ -8,7 +8,7 @@ use crate::arguments::Argument;
 use clap::Command;
 use std::alloc::{AllocError, Global};
 
-/// The version of the workbench, and the logic that it is proved in, as the end of `rt version` names it.
+/// The version of the workbench, and the logic of its proofs as the end of `rt version` names it.
 pub const VERSION: &str = "1.0 (logic dac8208d650f15bf)";
 
 const PROGRAM_NOTES: &str = "\
@@ -114,7 +114,7 @@ Example: chipbench prove game.asm --keys-to break.keys";
 /// A command of the program.
 pub(crate) struct CommandRow {
     name: &'static str,
-    /// A sentence that says what the command does.
+    /// A sentence that describes what the command does.
     about: &'static str,
     /// The text below the help of the command: an example.
     notes: &'static str,
@@ -317,10 +317,10 @@ pub(crate) fn chipbench<'a>(alloc: Global) -> Result<Command<'a>, AllocError>
     with_commands(alloc, program(alloc)?, &COMMANDS)
 }
 
-/// Returns the program for arguments that begin with this word: with only the command of that name or, if
-/// there is none, with all commands. One command saves an eighth of a process's start, and it judges such
-/// arguments as all commands do, because `clap` stops at the first word and goes on with the command that it
-/// names.
+/// Returns the program for arguments that begin with `word`. The program contains only the command of that
+/// name or, if there is none, all commands. A single command shortens the start of a process by an eighth.
+/// The result is the same as with all commands, because `clap` stops at the first word and continues with
+/// the command that the word names.
 pub(crate) fn chipbench_for<'a>(alloc: Global, word: &str) -> Result<Command<'a>, AllocError>
     ensures { IfOk result (λ command. (rest : List (List ℕ))
         → JudgesAsAll (word.now ∷ rest) (app_of command)) }
@@ -331,7 +331,7 @@ pub(crate) fn chipbench_for<'a>(alloc: Global, word: &str) -> Result<Command<'a>
     }
 }
 
-// Returns the row of the command of a name, if there is one.
+// Returns the row of the command with this name, if there is one.
 fn row_named<'a>(rows: &'a [CommandRow], name: &str) -> Option<&'a CommandRow>
     ensures { IfSome result (λ row. IsRowOf rows.now name.now row.now) }
 {
@@ -369,7 +369,7 @@ fn program<'a>(alloc: Global) -> Result<Command<'a>, AllocError>
     .bin_name("chipbench")
 }
 
-// Adds commands, in order.
+// Adds commands in order.
 fn with_commands<'a>(
     alloc: Global,
     mut command: Command<'a>,

@@ -1,4 +1,4 @@
-//! The arguments of the program, as plain data that says what they ask for.
+//! The arguments of the program, parsed into plain data.
 #![tactic(auto)]
 
 mod arguments;

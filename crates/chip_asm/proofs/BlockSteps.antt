@@ -1,5 +1,5 @@
--- The blocks of the pass, with the last one last, agree with the open blocks, with the last one
--- first.
+-- The blocks of the pass, listed with the last one last, agree with the open blocks, listed with
+-- the last one first.
 use Rattle.std.proofs.Common.{◌≡◌, ℕ, ◌-◌, ◌<◌, Bool, true, false, not, ◌&&◌, ◌||◌, List, [], ◌∷◌, ◌++◌, map, reverse, length, get_or, set, refl, ap, sym, ◌∙◌, arith, length-append}
 use Rattle.std.specs.List.{list_all, list_any}
 use Rattle.std.proofs.Math.Seq.{get_or-append_seam, set-append_seam}
@@ -33,14 +33,14 @@ not_side Else h k = absurd (h refl)
 not_side Endif h k = absurd (k refl)
 not_side _ h k = refl
 
--- a line other than ELSE and ENDIF is active if the pass says so
+-- the pass knows whether a line other than ELSE and ENDIF is active
 pub active_here : (pass : Pass) (before : List Placed) (body : Body) → is_side_or_end body ≡ false → Follows pass before → pass.active ≡ is_active before body
 unfolding is_active
 active_here pass before body s f =
     let bs : List Block = map (block_of before) (enclosing before) in
     f.active ∙ (rw (s, f.ended, f.open_blocks) (ap (λ b. not (has_ended before) && b) (list_all-reverse (λ (b : Block). b.holds) bs ∙ list_all-map (λ (b : Block). b.holds) (block_of before) (enclosing before))))
 
--- the write at an ELSE
+-- the effect of an ELSE on the last block
 pub turned_last : (items nearest : List Block) (n : ℕ) (old new : Block) → items ≡ reverse nearest → n ≡ length items - 1 → 0 < length items
     → old ≡ get_or items n old → new ≡ turned old → set items n new ≡ reverse (turn_first nearest)
 turned_last items [] n old new e at some is_old is_new = absurd (let k : length items ≡ 0 = ap length e in omega arith)

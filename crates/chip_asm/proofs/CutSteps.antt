@@ -1,4 +1,4 @@
--- Bytes cut into lines, one line after another.
+-- Bytes split into lines, one line after another.
 use Rattle.std.proofs.Common.{◌≡◌, ℕ, suc, ◌+◌, ◌<◌, ◌≤◌, ◌==◌, Bool, true, false, cond, ltb, List, [], ◌∷◌, ◌++◌, length, drop, take, ◌-◌, refl, ap, sym, ◌∙◌, arith, Some, None, length-append, ne_eqb}
 use Rattle.std.specs.List.{slice_split, onto_first, position_or_len, before_first, after_first, All}
 use Rattle.std.specs.Str.Lines.{lines_of_parts, strip_carriage_return}
@@ -14,7 +14,7 @@ use Rattle.std.specs.Io.{StartsWith}
 use Rattle.chip_asm.specs.inner.HeldText.{IsBack, part_from}
 use Rattle.chip_asm.specs.Lines.{lines_of, is_long, fault_of_lines, open_fault, is_newline, first_text}
 
--- a list with an element
+-- a list that isn't empty
 pub record Filled (parts : List (List ℕ)) : Type 0 where
   pub first : List ℕ
   pub others : List (List ℕ)
@@ -48,7 +48,7 @@ cut-last bytes some h =
     ap lines_of_parts (slice_split_none is_newline bytes none) ∙ not-empty bytes some
     ∙ ap (λ xs. bytes ∷ lines_of xs) (sym (drop_all (position_or_len is_newline bytes + 1) bytes (omega arith)))
 
--- the first line, and then the lines of what follows it
+-- the lines of bytes are the first line and the lines of the bytes after it
 pub lines-next : (bytes : List ℕ) → 0 < length bytes → lines_of bytes ≡ first_text bytes ∷ lines_of (after_first is_newline bytes)
 lines-next bytes some = by (ltb (position_or_len is_newline bytes) (length bytes)) refl
   where
@@ -104,13 +104,13 @@ long-is t h = grind (arith, nat_tests)
 pub short-is : (t : List ℕ) → length t ≤ LINE_BYTES → is_long t ≡ false
 short-is t h = grind (arith, nat_tests)
 
--- a text at the front of the end of some bytes is a part of them
+-- a text at the front of a suffix of some bytes is a part of these bytes
 pub part-of : (text rest bytes : List ℕ) → StartsWith rest text → IsBack rest bytes → text ≡ part_from bytes (length bytes - length rest) (length text)
 part-of text rest bytes f b =
     let count : length bytes - length rest + length text - (length bytes - length rest) ≡ length text = omega arith in
     sym f ∙ ap (take (length text)) b.is ∙ (rw count refl)
 
--- the end of an end of some bytes is an end of them
+-- a suffix of a suffix of some bytes is a suffix of them
 pub back-back : (less rest bytes : List ℕ) → IsBack less rest → IsBack rest bytes → IsBack less bytes
 back-back less rest bytes l b =
     let count : length bytes - length rest + (length rest - length less) ≡ length bytes - length less = omega (arith, l.within, b.within) in record {

@@ -1,4 +1,4 @@
--- The facts kept of lines stay right when names are added.
+-- The facts stored about lines stay right when names are added.
 use Rattle.std.proofs.Common.{◌≡◌, ℕ, ◌+◌, ◌<◌, ◌≤◌, All, List, [], ◌∷◌, ◌++◌, ◌∙◌, ap, sym, subst, refl, arith, get_or, length, length-append, set, slice_get, take, Option, Some, None, ◌⊎◌, inl, inr}
 use Rattle.std.specs.Option.{option_map}
 use Rattle.std.proofs.Math.Seq.{map-set_same}
@@ -47,7 +47,7 @@ numbers-extend old new numbers names e n = record {
   named = names-same old new numbers e n.within ∙ n.named;
 }
 
--- one number more
+-- one more number
 pub numbers-push : (old new : List Name) (numbers : List NameId) (names : List Name) (id : NameId) (name : Name) → Extends old new → AreNumbers old numbers names → IsNumber new id name
     → AreNumbers new (numbers ++ id ∷ []) (names ++ name ∷ [])
 numbers-push old new numbers names id name e n one =
@@ -74,7 +74,7 @@ infos-extend old new lines e all k d h = info-extends old new _ _ _ e (all k d h
 pub infos-push : (old new : List Name) (lines : List KeptLine) (line : KeptLine) → Extends old new → AreInfos old lines → IsInfo new line.info line.several (reading_in line) → AreInfos new (lines ++ line ∷ [])
 infos-push old new lines line e all last = All-push (λ (kept : KeptLine). IsInfo new kept.info kept.several (reading_in kept)) lines line (infos-extend old new lines e all) last
 
--- one line more
+-- one more line
 pub infos-of-more : (old new : List Name) (infos : List Numbered) (made : Numbered) (lines : List KeptLine) (k : ℕ) (line : KeptLine) → Extends old new
     → AreInfosOf old infos (readings_in (take k lines)) → k < length lines → line ≡ get_or lines k line → IsInfo new made.info made.several.items (reading_in line)
     → AreInfosOf new (infos ++ made ∷ []) (readings_in (take (k + 1) lines))
@@ -101,7 +101,7 @@ infos-of-more old new infos made lines k line e are inside at is = (long, each)
 pub infos-of-all : (keys : List Name) (infos : List Numbered) (lines : List KeptLine) (k : ℕ) → length lines ≤ k → AreInfosOf keys infos (readings_in (take k lines)) → AreInfosOf keys infos (readings_in lines)
 infos-of-all keys infos lines k past are = subst (λ (ls : List KeptLine). AreInfosOf keys infos (readings_in ls)) (take_all k lines past) are
 
--- the first lines have their other numbers, and the remaining lines wait for theirs
+-- the first lines have their new numbers, and the remaining lines don't have theirs yet
 pub record ArePut (lines before : List KeptLine) (infos was : List Numbered) (k : ℕ) : Type 0 where
   pub texts : texts_in lines ≡ texts_in before
   pub readings : readings_in lines ≡ readings_in before

@@ -1,4 +1,4 @@
--- All that is kept of a source, before and after an edit.
+-- Everything stored about a source, before and after an edit.
 use Rattle.std.proofs.Common.{◌≡◌, ℕ, zero, suc, ◌+◌, ◌<◌, ◌≤◌, List, [], ◌∷◌, ◌++◌, reverse, length, take, drop, set, get_or, fold, refl, ap, sym, subst, ◌∙◌, arith, append_assoc, ◌-◌, Bool, true, false, cond, ◌&&◌, map, find, Option, Some, None, replicate, sum_by, length-append, vec_len, slice_get, inl, inr, vec_capacity, All, length-set, eq-eqb, insert, remove}
 use Rattle.std.proofs.lemmas.List.{length-reverse, length-take, set-get_or, reverse-append, get_or_append_left, get_or-append_right, get_or_past, get_or-replicate, length-replicate, take_all, length-map, take-map, get_or-set_same, map-set, get_or_default, get_or-set_other, drop-map, map-append}
 use Rattle.std.proofs.Math.Seq.{get_or-append_seam, map-set_same, set-append_seam}
@@ -45,11 +45,11 @@ use Rattle.std.specs.Prelude.{min}
 
 -- The lines of a source in which one line is replaced by one that is alike.
 
--- each of the lines has this address or a greater one
+-- each of the lines has at least this address
 abbrev pub AreAbove : ℕ → List Placed → Type 0
 AreAbove low ps = All (λ p. low ≤ p.here) ps
 
--- lines that follow two lists which are the same for them
+-- lines that follow either of two lists, if the lists share the parts that the lines depend on
 record Later (xs ys : List Placed) (lines : List Reading) (low : ℕ) : Type 0 where
   later : List Placed
   of_first : fold onto xs lines ≡ later ++ xs
@@ -128,7 +128,7 @@ swapped lines at old new inside is_old alike =
       alike = e;
     }
 
--- Replacing a line by one that is alike changes only its bytes.
+-- Replacing a line by one that is alike changes only the line's bytes.
 
 pub names-swapped : (lines : List Reading) (at : ℕ) (new : Reading) → Swapped lines at new → names_of_lines (set lines at new) ≡ names_of_lines lines
 names-swapped lines at new s = ap symbols s.now ∙ sym s.same.names ∙ ap symbols (sym s.was)
@@ -194,7 +194,7 @@ byte_in all at p = get_or (bytes_in_code (code_under all p)) (at - p.here) 0
 byte-same : (xs ys : List Placed) (at : ℕ) (p : Placed) → Same xs ys → byte_in xs at p ≡ byte_in ys at p
 byte-same xs ys at p s = rw s.names refl
 
--- the line's own bytes at its place, and elsewhere the bytes that were there
+-- the line's own bytes at its place, and the old bytes elsewhere
 pub byte-swapped : (lines : List Reading) (at : ℕ) (new : Reading) (s : Swapped lines at new) (address : ℕ)
     → byte_at (placed (set lines at new)) address ≡ cond (covers address s.x) (byte_in (placed (set lines at new)) address (with_line s.x new)) (byte_at (placed lines) address)
 unfolding byte_at
@@ -216,7 +216,7 @@ byte-swapped lines at new s address = by (covers address s.x) refl
         (λ p. byte-same (s.later ++ s.x ∷ s.before) (s.later ++ with_line s.x new ∷ s.before) address p s.same) (covers address) s.later s.before s.x (with_line s.x new) e e
         ∙ ap (λ ps. byte_at ps address) (sym s.was)
 
--- the result made for these lines is right for them
+-- the result computed for these lines is right for them
 pub kept-by : (kept : Kept) (lines : List KeptLine) → kept.lines.items ≡ lines → length lines ≤ MOST_LINES → readings_in lines ≡ map reading_of (texts_in lines) → AreInfos kept.names.keys lines
     → kept.names.symbols ≡ names_of_lines (readings_in lines) → IsLayoutOf kept.layout (readings_in lines) → IsImageOf kept.image.items (readings_in lines)
     → AreSteady lines kept.settled → IsKept kept
@@ -230,11 +230,11 @@ kept-by kept lines e few are_read infos symbols laid_out image settled = record 
   settled = rw e settled;
 }
 
--- if there are no first lines, nothing has to hold of them
+-- if there are no first lines, no line has to be steady
 none-settled : (lines : List KeptLine) → AreSteady lines 0
 none-settled lines = λ place other h. absurd (omega arith)
 
--- all that is kept stays right if names are added
+-- everything that is stored stays right if names are added
 pub kept-same : (old new : Kept) → IsKept old → new.lines.items ≡ old.lines.items → new.layout ≡ old.layout → new.image ≡ old.image → new.settled ≡ old.settled
     → Extends old.names.keys new.names.keys → new.names.symbols ≡ old.names.symbols → IsKept new
 kept-same old new k lines layout image settled keys symbols =
@@ -249,25 +249,25 @@ no-image : IsImageOf [] []
 unfolding placed byte_at
 no-image = record { imaged = λ k h. refl; short = omega arith; long = λ h. absurd (omega arith) }
 
--- for a source without lines, all is right
+-- everything is right for a source without lines
 pub kept-none : (kept : Kept) → kept.lines.items ≡ [] → kept.names.symbols ≡ [] → IsLayoutOf kept.layout [] → kept.image.items ≡ [] → kept.settled ≡ 0 → IsKept kept
 kept-none kept none symbols laid_out image settled =
     kept-by kept [] none (omega arith) refl (All-nil (λ (k : KeptLine). IsInfo kept.names.keys k.info k.several (reading_in k))) (symbols ∙ sym no-names) laid_out (rw image no-image)
     (rw settled (none-settled []))
 
--- all that is kept stays right under another numbering of the names
+-- everything that is stored stays right under another numbering of the names
 pub kept-renumbered : (old new : Kept) (lines : List KeptLine) → IsKept old → new.lines.items ≡ lines → texts_in lines ≡ texts_in old.lines.items → readings_in lines ≡ readings_in old.lines.items → length lines ≡ length old.lines.items
     → AreInfos new.names.keys lines → new.names.symbols ≡ old.names.symbols → new.layout ≡ old.layout → new.image ≡ old.image → new.settled ≡ 0 → IsKept new
 kept-renumbered old new lines k e texts readings long infos symbols layout image settled =
     kept-by new lines e (omega (arith, k.few, long)) (readings ∙ k.are_read ∙ ap (map reading_of) (sym texts)) infos (symbols ∙ k.symbols ∙ ap names_of_lines (sym readings)) (rw (layout, readings) k.laid_out) (rw (image, readings) k.image)
     (rw settled (none-settled lines))
 
--- All that is kept stays right if room is taken for an edit: the image gets its whole length.
+-- Everything that is stored stays right if room for an edit is reserved: the image gets its full length.
 
 padded : (old new : List ℕ) (n k : ℕ) → new ≡ old ++ replicate n 0 → get_or new k 0 ≡ get_or old k 0
 padded old new n k is = grind (arith, get_or_append_left, get_or-append_right, get_or_past, get_or-replicate, length-replicate, length-append, cases_lt k (length old), cases_lt k (length old + n))
 
--- zeros after the bytes change none of them
+-- zeros appended to the bytes change none of them
 filled-byte : (old new : List ℕ) (k : ℕ) → length old ≤ IMAGE_BYTES → new ≡ take IMAGE_BYTES old ++ replicate (IMAGE_BYTES - length old) 0 → get_or new k 0 ≡ get_or old k 0
 filled-byte old new k short is =
     let all : take IMAGE_BYTES old ≡ old = take_all IMAGE_BYTES old short in
@@ -283,7 +283,7 @@ filled old new lines i full is =
       long = λ some. sym new.ok.0 ∙ full;
     }
 
--- all is right for a kept source with the same contents elsewhere in memory
+-- everything is right for a stored source with the same contents elsewhere in memory
 pub kept-moved : (old new : Kept) → IsKept old → new.lines.items ≡ old.lines.items → new.layout.placements.items ≡ old.layout.placements.items → new.names ≡ old.names → new.layout.end ≡ old.layout.end
     → new.layout.faults ≡ old.layout.faults → new.settled ≡ old.settled → IsImageOf new.image.items (lines_kept old) → IsKept new
 kept-moved old new k lines placements names end faults settled image =
@@ -297,12 +297,12 @@ kept-moved old new k lines placements names end faults settled image =
     image
     (rw settled k.settled)
 
--- After an edit, all that is kept is right, and no more lines were encoded than the edit needs.
+-- After an edit, everything that is stored is right, and no more lines were encoded than the edit needs.
 
 pub within-lines : (kept : Kept) (edit : LineEdit) → MayEdit kept edit → IsPlaceWithin (length kept.lines.items) edit
 within-lines kept edit m = subst (λ n. IsPlaceWithin n edit) kept.lines.ok.0 m.within
 
--- A property of each kept line still holds after an edit if it holds of the lines that are added.
+-- A property of each stored line still holds after an edit if it holds for the added lines.
 
 all-after : (P : KeptLine → Type 0) (lines : List KeptLine) (edit : LineEdit) → All P lines → AllAdded P edit → All P (lines_after lines edit)
 all-after P lines (Insert at line) all one = All-append P (take at lines) (line ∷ drop at lines) (All-take P at lines all) (All-cons P line (drop at lines) one (All-drop P at lines all))
@@ -324,9 +324,9 @@ read-after lines edit e one = read-all (lines_after lines edit) (all-after IsRea
 pub texts-set : (lines : List KeptLine) (at : ℕ) (kept : KeptLine) → texts_in (set lines at kept) ≡ set (texts_in lines) at kept.text
 texts-set lines at kept = map-set (λ (k : KeptLine). k.text) lines at kept
 
--- The lines that an edit leaves.
+-- The lines after an edit.
 
--- a line that is added or removed, by the readings of the lines
+-- the readings after a line is added or removed
 map-insert : {X Y : Type 0} (f : X → Y) (xs : List X) (i : ℕ) (y : X) → map f (insert xs i y) ≡ insert (map f xs) i (f y)
 map-insert f xs i y = map-append f (take i xs) (y ∷ drop i xs) ∙ (λ j. sym (take-map f i xs) j ++ f y ∷ sym (drop-map f i xs) j)
 
@@ -348,25 +348,25 @@ all-are-read kept edit m = read-after kept.lines.items edit m.kept.are_read m.ar
 infos-edited : (kept : Kept) (edit : LineEdit) → MayEdit kept edit → AreInfos kept.names.keys (lines_after kept.lines.items edit)
 infos-edited kept edit m = all-after (λ (line : KeptLine). IsInfo kept.names.keys line.info line.several (reading_in line)) kept.lines.items edit m.kept.infos m.infos
 
--- the lines that are encoded because of an edit, seen from the texts
+-- the number of lines that are encoded because of an edit, computed from the texts
 pub needs-edited : (kept : Kept) (edit : LineEdit) → MayEdit kept edit → needs_count (lines_kept kept) (lines_then kept edit) (place_before edit) ≡ needed_by kept edit
 needs-edited kept edit m =
     needs-view (lines_kept kept) (lines_then kept edit) (texts_kept kept) (texts_after (texts_kept kept) edit) (place_before edit) m.kept.are_read
     (all-are-read kept edit m ∙ ap (map reading_of) (texts-edited kept.lines.items edit))
 
--- the first lines stay as they are
+-- the first lines stay the same
 pub begun-kept : (kept : Kept) (edit : LineEdit) (first : ℕ) → MayEdit kept edit → first ≤ first_changed edit → AreSteady kept.lines.items first → Begun kept.lines.items edit first
 begun-kept kept edit first m stays steady = begun kept.names.keys kept.lines.items edit first (within-lines kept edit m) (infos-edited kept edit m) stays steady
 
--- after both passes all is right again
+-- after both passes, everything is right again
 pub kept-edited : (old new : Kept) (edit : LineEdit) (first : ℕ) → MayEdit old edit → Begun old.lines.items edit first → new.lines.items ≡ lines_after old.lines.items edit
     → new.settled ≡ first → IsAssembled (change_of old edit) new → IsKept new
 kept-edited old new edit first m b lines settled a =
     kept-by new (lines_after old.lines.items edit) lines (few-edited old edit m) (all-are-read old edit m) (subst (λ (ls : List KeptLine). AreInfos new.names.keys ls) lines a.infos) a.symbols a.laid_out a.image (rw settled b.stay)
 
--- An edit is made in what is kept of each line, and all is ready for the two passes.
+-- An edit is made in the placements, and everything is ready for the two passes.
 
--- each byte is that of the lines
+-- each byte is the byte that the lines determine
 abbrev AreBytesOf : List ℕ → List Reading → Type 0
 AreBytesOf image lines = (k : ℕ) → k < IMAGE_BYTES → get_or image k 0 ≡ right_byte lines k
 
@@ -401,7 +401,7 @@ pub record IsMade (old new : Kept) (edit : LineEdit) (first here : ℕ) : Type 0
   pub names_room : length new.names.symbols + count_after (length old.lines.items) edit ≤ new.names.room
   pub blocks_room : count_after (length old.lines.items) edit ≤ vec_capacity new.blocks
 
--- the items kept of each line
+-- the placements of the lines
 
 pub placed-many : (kept : Kept) → IsKept kept → length kept.layout.placements.items ≡ length kept.lines.items
 placed-many kept k = length-laid kept.layout (lines_kept kept) k.laid_out ∙ length-map kept.lines.items reading_in
@@ -455,7 +455,7 @@ first-held old new edit first here m j x q below at q_at = λ effect.
     inr (subst (λ (f : Found). HasCode (code_with (names_of_lines was) x.line) f.here f.size q.status new.image.items) same
     (accepted-code old.layout new.image.items was j q x.line m.may.kept.laid_out m.image a (ap is_accepted_found same ∙ effect) q_old line))
 
--- the bytes that none of the first lines covers
+-- the bytes that no first line covers
 
 first-below : (lines : List Reading) (first n : ℕ) (q : Found) → first ≤ n → AtPlace lines n q → address (placed (take first lines)) ≤ q.here
 first-below lines first n q h a =
@@ -488,7 +488,7 @@ none-waits old new edit first here m j q at waits = by (place_before edit j) ref
     by None origin = (let skipped : q.status ≡ Skipped = ap (λ (p : Placement). p.status) (m.placements.fresh j q origin at) in cc)
     by (Some b) origin = none-pending (lines_kept old) old.layout m.may.kept.laid_out b q (m.placements.stood j b origin ∙ at) waits
 
--- all is ready
+-- everything is ready
 pub exchanged : (old new : Kept) (edit : LineEdit) (first here : ℕ) → IsMade old new edit first here → IsExchanged (change_of old edit) new first here
 exchanged old new edit first here m =
     let b : Begun old.lines.items edit first = m.begun in
@@ -528,7 +528,7 @@ readings-set lines at added = map-set reading_in lines at added
 pub has-room : (count number : ℕ) (text : List ℕ) → insert_refusal count number text ≡ None → count < MOST_LINES
 has-room count number text h = grind (arith, nat_tests)
 
--- All that is kept stays right if a line is replaced by one that is alike.
+-- Everything that is stored stays right if a line is replaced by one that is alike.
 
 -- the line at the place, before and after
 pub record Exchange (lines : List Reading) (at : ℕ) (new : Reading) (q : Placement) : Type 0 where
@@ -556,7 +556,7 @@ exchange-kept kept at added q k within is alike =
 pub line-new : (lines : List Reading) (at : ℕ) (new : Reading) (q : Placement) (e : Exchange lines at new q) → e.now.x.line ≡ new
 line-new lines at new q e = sym (get_or_from_slice_get (set lines at new) at e.now.x.line new e.now.line) ∙ get_or-set_same lines at new new e.inside
 
--- the code of the line is the code of the kept line
+-- the code of the line is the code of the stored line
 code-swapped : (kept : Kept) (at : ℕ) (added : KeptLine) (q : Placement) → IsKept kept → (e : Exchange (readings_in kept.lines.items) at (reading_in added) q)
     → code_kept kept.names added ≡ code_under (placed (set (readings_in kept.lines.items) at (reading_in added))) e.now.x
 code-swapped kept at added q k e =
@@ -564,7 +564,7 @@ code-swapped kept at added q k e =
     ap (code_with kept.names.symbols) (sym (line-new lines at (reading_in added) q e))
     ∙ ap (λ names. code_with names e.now.x.line) (k.symbols ∙ sym (names-swapped lines at (reading_in added) e.swap))
 
--- outside the line's place, the bytes are as they were
+-- outside the line's place, the bytes stay the same
 byte-apart : (lines : List Reading) (at : ℕ) (new : Reading) (q : Placement) (e : Exchange lines at new q) (k : ℕ) → covers_byte q k ≡ false → right_byte (set lines at new) k ≡ right_byte lines k
 byte-apart lines at new q e k apart =
     let x : e.was.x ≡ e.swap.x = sym (get_or_from_slice_get _ at e.was.x e.was.x e.was.at) ∙ line-was lines at new e.swap e.was.x in
@@ -573,8 +573,8 @@ byte-apart lines at new q e k apart =
     byte-swapped lines at new e.swap (IMAGE_START + k)
     ∙ ap (λ b. cond b (byte_in (placed (set lines at new)) (IMAGE_START + k) (with_line e.swap.x new)) (right_byte lines k)) ((rw (← here, ← size) refl) ∙ apart)
 
--- the bytes of the line are written, the status of an accepted line has the fault of its code, and
--- nothing else has changed
+-- the bytes of the line are written, the status of an accepted line contains the fault of its code,
+-- and nothing else has changed
 pub record IsNoted (old now : Kept) (at : ℕ) (added : KeptLine) (q made : Placement) : Type 0 where
   pub rest : record now { image = old.image; layout = record old.layout { end = now.layout.end } } ≡ old
   pub written : IsWritten q (kept_bytes old.names added q) old.image.items now.image.items
@@ -638,12 +638,12 @@ module _ (old now : Kept) (at : ℕ) (added : KeptLine) (q made : Placement) (k 
     counted = n.counted;
   }
 
--- the lines before the new one are as they were
+-- the lines before the new one stay the same
 settled-swapped : (lines : List KeptLine) (old new at : ℕ) (added : KeptLine) → new ≡ min old at → AreSteady lines old → AreSteady (set lines at added) new
 settled-swapped lines old new at added is s = λ place other h.
     ap (λ (k : KeptLine). k.info.is_steady) (get_or-set_other lines at place added other (λ e. omega arith)) ∙ s place other (omega arith)
 
--- all is right again
+-- everything is right again
 pub kept-swapped : (old now new : Kept) (at : ℕ) (added : KeptLine) (q made : Placement) → IsKept old → IsNoted old now at added q made → new.lines.items ≡ set now.lines.items at added
     → new.settled ≡ min now.settled at → new.names ≡ now.names → new.layout ≡ now.layout → new.image ≡ now.image
     → reading_in added ≡ reading_of added.text → IsInfo old.names.keys added.info added.several (reading_in added) → Exchange (readings_in old.lines.items) at (reading_in added) q
@@ -659,7 +659,7 @@ kept-swapped old now new at added q made k n lines settled names layout image re
     (rw (image, all) (image-swapped old now at added q made k e n))
     (settled-swapped old.lines.items old.settled new.settled at added (settled ∙ ap (λ (k : Kept). min k.settled at) n.rest) k.settled)
 
--- if the line is encoded, it has to be encoded
+-- a line that is encoded had to be encoded
 pub encoded-kept : (kept : Kept) (at : ℕ) (added : KeptLine) (q : Placement) (old new : ℕ) → Exchange (readings_in kept.lines.items) at (reading_in added) q
     → new ≤ old + cond (is_coded added q) 1 0 → new ≤ old + needs_count (readings_in kept.lines.items) (set (readings_in kept.lines.items) at (reading_in added)) (before_replace at)
 encoded-kept kept at added q old new e h = by (is_accepted q.status) (has_code (body_of (reading_in added))) refl h

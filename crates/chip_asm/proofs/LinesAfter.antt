@@ -1,5 +1,5 @@
 -- A list before and after an edit, place by place: the items that were there before, and the first
--- part, which stays.
+-- part, which stays the same.
 use Rattle.std.proofs.Common.{◌≡◌, insert, remove, set, ℕ, ◌-◌, ◌+◌, ◌<◌, ◌≤◌, List, ◌++◌, length, map, take, get_or, slice_get, refl, ap, sym, subst, ◌∙◌, arith, None, Some, option_map, length-set}
 use Rattle.std.proofs.lemmas.Bool.Decides.{nat_tests}
 use Rattle.std.proofs.lemmas.Grind.{get_or-set_at}
@@ -12,14 +12,14 @@ use Rattle.chip_asm.specs.declared.edit.LineEdit.{LineEdit}
 use Rattle.chip_asm.specs.declared.edit.LineEdit.TheVariants.{Insert, Replace, Delete, Open}
 use Rattle.chip_asm.specs.inner.Records.{reading_in, readings_in, IsPlaceWithin, items_after, lines_after, count_after, place_before, first_changed}
 
--- two lists with the same front also have the same shorter fronts
+-- two lists that agree up to a place also agree up to each earlier place
 pub shorter : {X : Type 0} (n m : ℕ) (xs ys : List X) → n ≤ m → take m xs ≡ take m ys → take n xs ≡ take n ys
 shorter n m xs ys h e = sym (take-take n m xs h) ∙ ap (take n) e ∙ take-take n m ys h
 
 pub same-front : {X : Type 0} (xs ys : List X) (n j : ℕ) → take n xs ≡ take n ys → j < n → slice_get xs j ≡ slice_get ys j
 same-front xs ys n j e h = grind (arith, gets, slice_get_cases, get_or-take, length-take)
 
--- a line among those that are kept
+-- a line among the stored ones
 pub line-at : (xs : List KeptLine) (n : ℕ) (kept : KeptLine) → slice_get xs n ≡ Some kept → slice_get (readings_in xs) n ≡ Some (reading_in kept)
 line-at xs n kept e = slice_get-map reading_in xs n ∙ ap (option_map reading_in) e
 
@@ -65,7 +65,7 @@ removed xs at IsNew h = record {
   fresh = λ n y o e. absurd (grind (arith, nat_tests));
 }
 
--- the items kept of each line
+-- the placements of the lines
 pub edited-items : {X : Type 0} (xs ys : List X) (edit : LineEdit) (new : X) (count : ℕ) → length xs ≡ count → IsPlaceWithin count edit → ys ≡ items_after xs edit new → Edited xs ys edit (λ y. y ≡ new)
 edited-items {X} xs ys edit new count many within is =
     subst (λ zs. Edited xs zs edit (λ y. y ≡ new)) (sym is) (by edit (subst (λ n. IsPlaceWithin n edit) (sym many) within))

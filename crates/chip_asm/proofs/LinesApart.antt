@@ -1,4 +1,4 @@
--- No name is given twice, and no address is covered by two lines.
+-- No name is defined twice, and no address is covered by two lines.
 use Rattle.std.proofs.Common.{◌≡◌, ℕ, All, ◌+◌, ◌<◌, ◌≤◌, ◌⊎◌, inr, Bool, true, false, ◌&&◌, ltb, leb, List, [], ◌∷◌, length, reverse, slice_get, filter, refl, sym, subst, arith, Some, cond, ◌++◌, map, Option, None, is_some, option_map, option_to_list}
 use Rattle.std.proofs.lemmas.Bool.{and_parts, leb-true, ltb-true}
 use Rattle.std.proofs.lemmas.Bool.Decides.{nat_tests}
@@ -24,11 +24,11 @@ use Rattle.chip_symbols.specs.Names.{Name, lookup_name, is_redefinition}
 
 -- No address is covered by two lines.
 
--- each of the lines ends by an address
+-- each of the lines ends at or before an address
 abbrev EndBy : ℕ → List Placed → Type 0
 EndBy top before = All (λ p. p.here + p.size ≤ top) before
 
--- the addresses that so many bytes at a place cover
+-- the addresses that this many bytes at a place cover
 
 pub covered-parts : (here size at : ℕ) → (leb here at && ltb at (here + size)) ≡ true → (here ≤ at) × (at < here + size)
 covered-parts here size at c = let both = and_parts _ _ c in (leb-true here at both.0, ltb-true at (here + size) both.1)
@@ -72,13 +72,13 @@ apart lines at = placed-keeps (Apart at) (next-apart at) (record { ends = All-ni
 pub one-covers : (lines : List Reading) (at : ℕ) → length (filter (covers at) (placed lines)) ≤ 1
 one-covers lines at = (apart lines at).few
 
--- each line ends by the address after the last one
+-- each line ends at or before the address after the last one
 pub ends-by : (lines : List Reading) (n : ℕ) (x : Placed) → slice_get (reverse (placed lines)) n ≡ Some x → x.here + x.size ≤ address (placed lines)
 ends-by lines n x at =
     subst (λ (y : Placed). y.here + y.size ≤ address (placed lines)) (get_or_from_slice_get (reverse (placed lines)) n x x at)
     (All-permutation (λ (p : Placed). p.here + p.size ≤ address (placed lines)) (placed lines) (reverse (placed lines)) (IsPermutation-reverse (placed lines)) (apart lines 0).ends n x (slice_get_within (reverse (placed lines)) n x at))
 
--- No name is given twice.
+-- No name is defined twice.
 
 abbrev names_in : List (Name × Symbol) → List Name
 names_in = map (λ symbol. symbol.0)

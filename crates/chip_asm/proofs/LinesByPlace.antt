@@ -41,9 +41,9 @@ use Rattle.chip_asm.specs.declared.layout.Tally.{Tally}
 use Rattle.chip_asm.specs.inner.Passes.{IsTally}
 use Rattle.std.proofs.lemmas.List.FromFn.{length-enumerate_from, get_or-enumerate_from}
 
--- A line that is written into an image; and the code of a line.
+-- A line that is written into an image, and the code of a line.
 
--- items in the middle of others
+-- items between others
 
 pub inserted : {X : Type 0} (old items : List X) (d : X) (at k : ℕ) → at + length items ≤ length old → at ≤ k → k < at + length items → get_or (take at old ++ (items ++ drop (at + length items) old)) k d ≡ get_or items (k - at) d
 inserted old items d at k room low high =
@@ -70,7 +70,7 @@ covered here size k false e low = elim (cases_lt k (here - IMAGE_START)) [
   ]
 ]
 
--- a line whose bytes are put in their place is written
+-- a line whose bytes are put at its place is written
 pub put : (q : Placement) (bytes part old : List ℕ) (n : ℕ) → n ≡ q.size → IMAGE_START ≤ q.here → q.here + q.size ≤ length old + IMAGE_START → length part ≡ q.size
     → ((k : ℕ) → k < q.size → get_or part k 0 ≡ get_or bytes k 0) → IsWritten q bytes old (put_mid (q.here - IMAGE_START) n old part)
 put q bytes part old n size low high long same k =
@@ -93,7 +93,7 @@ put q bytes part old n size low high long same k =
         out (inl h) = inl h
         out (inr h) = inr (omega arith)
 
--- a line without code, whose bytes are zeros, is written too
+-- a line without code, whose bytes are zeros, is also written
 pub zeroed : (q : Placement) (bytes part old : List ℕ) (n : ℕ) → n ≡ q.size → IMAGE_START ≤ q.here → q.here + q.size ≤ length old + IMAGE_START → part ≡ replicate n 0 → bytes ≡ []
     → IsWritten q bytes old (put_mid (q.here - IMAGE_START) n old part)
 zeroed q bytes part old n size low high zeros none =
@@ -124,7 +124,7 @@ coded-same (Err a) (Err b) e = cc
 coded-same (Ok a) (Err b) e = cc
 coded-same (Err a) (Ok b) e = cc
 
--- tables under which a line has one code give its statement the same bytes
+-- if a line has the same code under two tables, its statement has the same bytes under them
 pub same-bytes : (r : Reading) (S T : Symbols) → code_of r S ≡ code_of r T → own_bytes (body_of r) S ≡ own_bytes (body_of r) T
 unfolding own_bytes
 same-bytes (bad f) S T e = refl
@@ -173,10 +173,10 @@ pub code-short : (line : Reading) (v : ℤ) → code_length line ≤ own_size (b
 code-short (bad f) v = omega arith
 code-short (read label body) v = length-short body v
 
--- The lines of a source by their places: they stand one after another, and each has its bytes in
--- the image, and its fault.
+-- The lines of a source by their places: the lines follow one another, and each has its bytes in
+-- the image and its fault.
 
--- the lines up to a place end by the address after them
+-- the lines before a place end at or before the address after them
 pub ends-before : (lines : List Reading) (first j : ℕ) (x : Placed) → j < first → slice_get (reverse (placed lines)) j ≡ Some x → x.here + x.size ≤ address (placed (take first lines))
 ends-before lines first j x less at =
     let inside : j < length lines = omega (arith, slice_get_within (reverse (placed lines)) j x at, length-numbered lines) in
@@ -206,7 +206,7 @@ apart lines i j x y other first second address c = false_from_ne_true (covers ad
     (let same : x ≡ y = same_Some x y (sym (found-line lines i x first address c) ∙ found-line lines j y second address d) in
     other (omega (arith, number-at lines i x first, number-at lines j y second, ap (λ (p : Placed). p.number) same))))
 
--- an address that no line covers has a zero
+-- an address that no line covers contains a zero
 pub byte-outside : (lines : List Reading) (address : ℕ) → ((n : ℕ) (x : Placed) → slice_get (reverse (placed lines)) n ≡ Some x → covers address x ≡ false) → byte_at (placed lines) address ≡ 0
 unfolding byte_at
 byte-outside lines address none =
@@ -283,21 +283,21 @@ byte-line lines n q a address c =
     (found-line lines n a.x a.at address (ap (λ (p : Found). covered_by p address) (sym a.placement) ∙ c))
     ∙ ap (λ (p : Found). get_or (bytes_in_code (code_under (placed lines) a.x)) (address - p.here) 0) (sym a.placement)
 
--- an address that no line covers has a zero
+-- an address that no line covers contains a zero
 pub byte-nowhere : (lines : List Reading) (address : ℕ) → ((n : ℕ) (q : Found) → slice_get (placements_of lines) n ≡ Some q → covered_by q address ≡ false) → byte_at (placed lines) address ≡ 0
 unfolding placements_of
 byte-nowhere lines address none =
     byte-outside lines address (λ n x at. none n (final_placement (placed lines) x)
     (slice_get-map (final_placement (placed lines)) (reverse (placed lines)) n ∙ ap (option_map (final_placement (placed lines))) at))
 
--- each line stands in memory
+-- each line is in the memory
 pub low : (lines : List Reading) (n : ℕ) (q : Found) → AtPlace lines n q → IMAGE_START ≤ q.here
 low lines n q a = rw a.placement a.within.0
 
 pub high : (lines : List Reading) (n : ℕ) (q : Found) → AtPlace lines n q → q.here + q.size ≤ MEMORY_BYTES
 high lines n q a = rw a.placement a.within.1
 
--- the first pass says whether it is accepted
+-- the first pass determines whether a line is accepted
 pub accepted-at : (lines : List Reading) (n : ℕ) (q : Found) → AtPlace lines n q → is_accepted_at lines n ≡ is_accepted_found q
 accepted-at lines n q a = ap (λ o. option_map_or (is_accepted_in (placed lines)) o false) a.at ∙ ap is_accepted_found (sym a.placement)
 
@@ -380,7 +380,7 @@ bytes-fit lines n q a accepted = omega (arith, own-room lines n q a accepted, ow
 pub code-fits : (lines : List Reading) (n : ℕ) (q : Found) (a : AtPlace lines n q) → is_accepted_found q ≡ true → code_length a.x.line ≤ q.size
 code-fits lines n q a accepted = omega (arith, own-room lines n q a accepted, code-short a.x.line (place (placed (take n lines)) a.x.line).value)
 
--- The results of the passes for a kept line, by its place.
+-- The results of the passes for a stored line, by its place.
 
 pub found-at : (layout : Layout) (lines : List Reading) → IsLayoutOf layout lines → (at : ℕ) (q : Placement) → at < length lines → q ≡ get_or layout.placements.items at q → AtPlace lines at (found q)
 found-at layout lines laid at q inside is =
@@ -408,7 +408,7 @@ by_mark : (u : Bool) (all : List Placed) (p : Placed) (q : Placement) → is_unc
 by_mark true all p q e is = ap (λ (f : Found). record f { fault = Some UnclosedIf; active = true }) is ∙ (let active = (unclosed-parts all p e).1 in rw (e, active) refl)
 by_mark false all p q e is = rw e is
 
--- a line whose block is open at the end is marked, and no other
+-- a line is marked if and only if its block is open at the end
 pub is-marked : (lines : List Reading) (i : ℕ) (p : Placed) (ended : Bool) (blocks : List Block) → slice_get (reverse (placed lines)) i ≡ Some p → ended ≡ has_ended (placed lines)
     → blocks ≡ reverse (map (block_of (placed lines)) (enclosing (placed lines))) → (not ended && list_any (is_opened_at i) blocks) ≡ is_unclosed (placed lines) p
 is-marked lines i p ended blocks there e b =
@@ -479,7 +479,7 @@ one-more all lines line at q so_far here inside e =
 pub take-next : (xs : List Reading) (i : ℕ) (x : Reading) → i < length xs → slice_get xs i ≡ Some x → take (i + 1) xs ≡ take i xs ++ x ∷ []
 take-next xs i x h e = take_more xs i x h ∙ ap (λ y. take i xs ++ y ∷ []) (get_or_from_slice_get xs i x x e)
 
--- One item is replaced, and the count over all lines after that.
+-- One item is replaced, and the count is updated over all lines.
 
 -- one item is replaced
 
@@ -502,7 +502,7 @@ pub count-few : (qs : List Placement) → sum_by count_of qs ≤ length qs
 count-few [] = omega arith
 count-few (q ∷ qs) = omega (arith, one-fault q, count-few qs, sum_by-cons count_of q qs)
 
--- the count if one line has another item
+-- the count if a line has another item
 pub tally-set : (was : List Placement) (old new : Tally) (n : ℕ) (q d : Placement) → IsTally was old → n < length was → new.faults + count_of (get_or was n d) ≡ old.faults + count_of q
     → new.start ≤ old.start → old.end ≤ new.end → new.end ≤ length was → (q.status ≡ Pending → (new.start ≤ n) × (n < new.end)) → IsTally (set was n q) new
 tally-set was old new n q d t inside counted start end within here = record {
@@ -528,7 +528,7 @@ tally-same was t n q d tallied inside same =
 
 -- The codes of lines, and how many lines are encoded.
 
--- an accepted line whose status becomes another one of an accepted line
+-- an accepted line whose status becomes another accepted status
 pub noted-found : (q : Placement) (status : Status) → is_accepted q.status ≡ true → is_accepted status ≡ true → found (record q { status = status }) ≡ found q
 noted-found q status taken accepted =
     let old = and_parts (is_active_status q.status) (is_none (refusal q.status)) taken in
@@ -545,7 +545,7 @@ found-coded q (Some f) accepted = noted-found q (Uncoded f) accepted refl
 pub count_by-take : {X : Type 0} (p : X → Bool) (xs : List X) (i : ℕ) → count_by p (take i xs) ≤ count_by p xs
 count_by-take p xs i = sum_by-take-le (λ x. cond (p x) 1 0) xs i
 
--- the count after one line more
+-- the count after one more line
 pub count-numbered : (p : ℕ × Reading → Bool) (xs : List Reading) (i : ℕ) (x : Reading) → slice_get xs i ≡ Some x
     → count_by p (take (i + 1) (enumerate_from 0 xs)) ≡ count_by p (take i (enumerate_from 0 xs)) + cond (p (i, x)) 1 0
 count-numbered p xs i x e =

@@ -14,7 +14,7 @@ use Rattle.chip_asm.proofs.PlacesAgree.{past-end}
 one-byte : (b : ℕ) → flat_map two_hex_digits (b ∷ []) ≡ two_hex_digits b
 one-byte b = append-nil (two_hex_digits b)
 
--- one byte more
+-- one more byte
 pub bytes-more : (n : ℕ) (bytes : List ℕ) → bytes_shown (n + 1) bytes ≡ bytes_shown n bytes ++ two_hex_digits (get_or bytes n 0)
 bytes-more n bytes =
     ap (λ r. flat_map two_hex_digits (map (λ i. get_or bytes i 0) r)) (range-more n)
@@ -70,7 +70,7 @@ three-digits n h k = decimal_step n (omega arith) (omega arith) ∙ ap (λ l. l 
 pub four-digits : (n : ℕ) → 1 ≤ n / 10 / 10 / 10 → n / 10 / 10 / 10 < 10 → decimal n ≡ (48 + n / 10 / 10 / 10) ∷ (48 + n / 10 / 10 % 10) ∷ (48 + n / 10 % 10) ∷ (48 + n % 10) ∷ []
 four-digits n h k = decimal_step n (omega arith) (omega arith) ∙ ap (λ l. l ++ (48 + n % 10) ∷ []) (three-digits (n / 10) h k)
 
--- the rows of one line more
+-- the rows of one more line
 pub rows-more : (row : LineFacts → List ℕ) (lines : List LineFacts) (i : ℕ) (f : LineFacts) → slice_get lines i ≡ Some f → flat_map row (take (i + 1) lines) ≡ flat_map row (take i lines) ++ row f
 rows-more row lines i f e =
     ap (flat_map row) (take_more lines i f (slice_get_within lines i f e))

@@ -9,7 +9,7 @@ use Rattle.chip_asm.specs.computed.Walk.{with_between, closes_no_more, enclosing
 use Rattle.chip_asm.specs.inner.Placements.{block_of}
 use Rattle.chip_asm.specs.inner.Blocks.{moved, turned, turn_first, close_first}
 
--- The open blocks, line by line: an IF opens one, an ENDIF closes the last one.
+-- The open blocks, line by line: an IF opens a block, and an ENDIF closes the last one.
 
 -- the rest of a list after its first element
 abbrev pub rest_of : {X : Type 0} → List X → List X
@@ -25,7 +25,7 @@ open_blocks (p ∷ before) = cond (is_if p) (p ∷ open_blocks before) (cond (is
 abbrev openers : (List Placed → Bool) → List Placed → List Placed
 openers test before = map (λ (s : List Placed × Placed). s.1) (filter (λ (s : List Placed × Placed). is_if s.1 && test s.0) (with_between before))
 
--- there are at least so many more IF lines than ENDIF lines, and no run closes more than it opens
+-- there are at least this many more IF lines than ENDIF lines, and no run closes more blocks than it opens
 abbrev surplus : ℕ → List Placed → Bool
 surplus d between = nat_le (count_by is_endif between + d) (count_by is_if between) && closes_no_more between
 
@@ -57,7 +57,7 @@ level : (c o e i d k : ℕ) (rest : Bool) → c + d ≡ o + k → (leb (c + e + 
 level c o e i d k true same = grind (arith, nat_tests)
 level c o e i d k false same = grind (arith, nat_tests)
 
--- a line that opens a block has none to close
+-- a line that opens a block closes none
 at_if : (e i : ℕ) (c : Bool) → (c ≡ true → e ≤ i) → (leb (0 + e + 0) (1 + i) && (leb (0 + e) (1 + i) && c)) ≡ (leb (e + 0) i && c)
 at_if e i true h = let k : e ≤ i = h refl in grind (arith, nat_tests)
 at_if e i false h = grind (arith, nat_tests)
@@ -111,9 +111,9 @@ pub enclosing-open : (before : List Placed) → enclosing before ≡ open_blocks
 unfolding enclosing
 enclosing-open before = openers-same closes_no_more (surplus 0) no_surplus before ∙ openers-surplus 0 before
 
--- The open blocks have falling numbers, so an ELSE turns one block alone.
+-- The numbers of the open blocks decrease, so an ELSE switches only one block.
 
--- the numbers of the lines count up, and each line names its block
+-- the lines are numbered in order, and each line contains the number of its block
 abbrev pub IsNumbered : List Placed → Type 0
 IsNumbered [] = Unit {0}
 IsNumbered (p ∷ before) =
@@ -145,7 +145,7 @@ number_later : (os : List Placed) (k n : ℕ) → Descends k os → k ≤ n → 
 number_later [] k n d h = refl
 number_later (o ∷ os) k n d h = let below : o.number < k = d.0 in ne_eqb o.number n (λ e. omega arith)
 
--- no ELSE belongs to a line that comes later
+-- no ELSE belongs to a later line
 has_else-later : (before : List Placed) (q : Placed) → IsNumbered before → length before < q.number → has_else before q ≡ false
 unfolding has_else
 has_else-later [] q n h = refl

@@ -44,9 +44,9 @@ use Rattle.chip_asm.proofs.Views.{count-step}
 use Rattle.chip_asm.specs.declared.kept.Kept.{Kept}
 use Rattle.chip_asm.specs.inner.Kept.{IsExchanged}
 
--- One more line of the first pass: the facts about its code, and the other lines keep theirs.
+-- One more line of the first pass: the facts about its code are shown, and the facts about other lines stay true.
 
--- the line at a place, as it is placed
+-- the line at a place, with its facts
 pub next-at : (lines : List Reading) (n : ℕ) (line : Reading) → slice_get lines n ≡ Some line → slice_get (reverse (placed lines)) n ≡ Some (place (placed (take n lines)) line)
 next-at lines n line at =
     let inside : n < length lines = slice_get_within lines n line at in
@@ -80,7 +80,7 @@ held-stays e j x q old new h same = λ taken. carried-stays e j x q.status old n
 
 -- the line at a place
 
--- the line was there before the edit, and was accepted then
+-- the line existed before the edit and was accepted then
 pub record Stood (e : Change) (n : ℕ) (line : Reading) (q : Placement) : Type 0 where
   pub before : ℕ
   pub at : AtPlace e.was before (found q)
@@ -92,7 +92,7 @@ stood-there e from n line q same there slot taken =
     let a : AtPlace e.was was.0 (found q) = at-place-of e.was was.0 (found q) was.2 in
     record { before = was.0; at = a; line_is = same_Some a.x.line line (sym a.line ∙ same n was.0 was.1 (slice_get_within e.now n line there) ∙ there) }
 
--- the code of the line is copied, as far as there was room for it
+-- the code of the line is copied, as far as there is room for it
 pub carried-held : (e : Change) (from new : List ℕ) (n : ℕ) (x : Placed) (line : Reading) (q : Placement) → IsSlot e from n line q → is_accepted q.status ≡ true → Stood e n line q → x.line ≡ line → IsWithinMemory x
     → ((i : ℕ) → i < x.size → i < q.size → get_or new (x.here - IMAGE_START + i) 0 ≡ get_or from (q.here - IMAGE_START + i) 0)
     → ((i : ℕ) → i < x.size → q.size ≤ i → get_or new (x.here - IMAGE_START + i) 0 ≡ 0) → IsCarried e n x q.status new
@@ -133,7 +133,7 @@ pub bare-accepted : (coded : Bool) → is_accepted (bare_status true coded) ≡ 
 bare-accepted true = refl
 bare-accepted false = refl
 
--- The facts about the line at which the first pass stands, and the facts when it is passed.
+-- The facts about the line that the first pass has reached, and the facts after the pass has passed it.
 
 -- the facts about the line
 pub record Facing (e : Change) (pass : Pass) (was : List Placement) (from : List ℕ) (place : ℕ) (kept : KeptLine) (x : Placed) : Type 0 where
@@ -174,7 +174,7 @@ value-faced keeps same e lines pass was w from image n kept x d u f taken agree 
     value-kept keeps same e.was stood.0 (reading_in kept) (found (get_or was n d)) pass.names.symbols (u.change n stood.0 stood.1 f.inside ∙ f.line) stood.2 taken
     (ap (λ s. agree_on s (values_of pass.names.symbols) (reading_in kept)) (sym u.before) ∙ agree)
 
--- there is room for the code that the line had, at its old place and at its new one
+-- there is room for the line's old code, both at its old place and at its new place
 pub record HasCopyRoom (was now : Placement) (from old : List ℕ) : Type 0 where
   pub was_low : IMAGE_START ≤ was.here
   pub was_high : was.here + was.size ≤ length from + IMAGE_START
@@ -227,15 +227,15 @@ copied was now from old new is r = record {
     apart_from k (inl before) = inl before
     apart_from k (inr behind) = inr (omega (arith, part_long, behind))
 
--- one line more
+-- one more line
 
--- the pass goes on by a line
+-- the pass advances by a line
 pub record StepsOn (pass next : Pass) (n : ℕ) (line : Reading) : Type 0 where
   pub keeps : KeepsBefore pass.names next.names
   pub passed : (before : List Reading) → Follows pass (placed before) → n ≡ length before → Follows next (placed (before ++ line ∷ []))
   pub room : (left : ℕ) → HasRoom pass (left + 1) → HasRoom next left
 
--- the placement of this line is noted, and no other changes
+-- the placement of this line is recorded, and no other placement changes
 pub record Noted (old new : List Placement) (n : ℕ) (q : Placement) : Type 0 where
   pub long : length new ≡ length old
   pub others : (j : ℕ) → (j ≡ n → ⊥) → slice_get new j ≡ slice_get old j
@@ -290,8 +290,7 @@ passed-on e lines pass next was now w tally from old new n kept q u inside f s i
     here : n ≡ length (take n e.now)
     here = sym (length-take-le n e.now (omega (arith, f.inside)))
 
--- Lines that the first pass goes over one after another, because it has to know only their sizes
--- and names.
+-- Lines that the first pass handles one after another, because it needs only their sizes and names.
 
 record-of : (q : Found) → q.value ≡ pos 0 → q.fault ≡ None → q.active ≡ true → q ≡ found-plain q.here q.size true
 record-of q v f l = rw (← v, ← f, ← l) refl
@@ -324,7 +323,7 @@ unpadded-stood e pass was from n size kept now defines aligning here change f ta
     size-there e.was s.before (found q) s.at taken ∙ full-unpadded (is_aligning before) (place before x).here (body_of x) (place before x).value (ap (λ l. is_padded (body_of l)) s.line_is ∙ unpadded)
     ∙ ap (own_size (body_of x)) value ∙ ap (λ l. own_size (body_of l) (pos 0)) s.line_is ∙ sym (is.sized ∙ full-unpadded aligning here (body_of (reading_in kept)) (pos 0) unpadded)
 
--- the pass goes on by a plain line
+-- the pass advances by a plain line
 
 one-at-most : (keys : List Name) (defines : Option NameId) (symbol : Symbol) → length (symbols_of keys defines symbol) ≤ 1
 one-at-most keys None symbol = omega arith
@@ -356,7 +355,7 @@ plain-held e pass was from image n size kept x true here f is refused zeros = λ
     fresh-held e from image n x (reading_in kept) (get_or was n nothing) kept.info.is_coded (f.slot nothing) (refused refl) zeros (f.info.coded ∙ ap (λ l. has_code (body_of l)) (sym f.line_is))
 plain-held e pass was from image n size kept x false here f is refused zeros = λ effect. absurd (false≢true (ap is_accepted_found is ∙ effect))
 
--- a line that was accepted, and still is, takes its code along
+-- a line that was accepted and still is keeps its code
 pub copied-held : (e : Change) (pass : Pass) (was : List Placement) (from old new : List ℕ) (n : ℕ) (kept : KeptLine) (x : Placed) → Facing e pass was from n kept x → IsChange e
     → is_accepted (get_or was n nothing).status ≡ true → Copied (get_or was n nothing) (placement_of x) from old new → ((k : ℕ) → is_byte_of x.here x.size k ≡ true → get_or old k 0 ≡ 0)
     → IsCarried e n x (get_or was n nothing).status new
@@ -365,14 +364,14 @@ copied-held e pass was from old new n kept x f change taken image zeros =
     carried-held e from new n x (reading_in kept) q (f.slot nothing) taken (stood-there e from n (reading_in kept) q change f.line (f.slot nothing) taken) f.line_is f.within image.in_both
     (λ i less past. image.beyond i less past ∙ zeros (x.here - IMAGE_START + i) (covering x.here x.size (IMAGE_START + (x.here - IMAGE_START + i)) (omega (arith, f.within.0)) (omega (arith, f.within.0, less))))
 
--- The second pass: at each place, the line there has its code under the names after the edit, or
--- gets it, and the bytes of the other lines stay. The facts before this pass, over lines that don't
--- wait, and when it is over.
+-- The second pass: the line at each place already has its code under the names after the edit, or
+-- gets that code, and the bytes of the other lines stay the same. The facts before this pass, about
+-- lines that don't wait, and after the pass.
 
 abbrev SameCode : Type 0
 SameCode = (line : Reading) (S T : Symbols) → agree_on S T line ≡ true → code_of line S ≡ code_of line T
 
--- the line at a place, among those that are kept
+-- the line at a place, among the stored ones
 
 pub record Stands (now : List Reading) (place : ℕ) (kept : KeptLine) (q : Placement) : Type 0 where
   pub at : AtPlace now place (found q)
@@ -404,7 +403,7 @@ reached lines placements place kept laid inside is = record { many = many; there
     line : reading_in kept ≡ at.x.line
     line = read-at lines place kept at.x.line (slice_get-get_or lines place kept inside ∙ ap Some (sym is)) at.line
 
--- one line more has its code
+-- one more line has its code
 next-coded : (e : Change) (placements new : List Placement) (image to : List ℕ) (place : ℕ) (x : Placed) (q : Placement) → placed_at e place ≡ Some x → AreCoded e placements image place → Noted placements new place q
     → length to ≡ length image → ((k : ℕ) → is_byte_of x.here x.size k ≡ false → get_or to k 0 ≡ get_or image k 0) → IsDone e x q to → AreCoded e new to (place + 1)
 next-coded e placements new image to place x q at a noted long outside is = record {
@@ -422,7 +421,7 @@ next-coded e placements new image to place x q at a noted long outside is = reco
     stays : (j : ℕ) (y : Placed) → (j ≡ place → ⊥) → placed_at e j ≡ Some y → StaysOn y.here y.size image to
     stays j y other there k covered = outside k (apart e.now j place y x other there at (IMAGE_START + k) covered)
 
--- the line at a place is encoded anew
+-- the line at a place is encoded again
 pub written-anew : (e : Change) (names : Tables) (lines : List KeptLine) (place : ℕ) (kept : KeptLine) (q : Placement) (placements new : List Placement) (image to : List ℕ) → IsEncodedUnder e names lines → Stands e.now place kept q
     → AreCoded e placements image place → Noted placements new place (record q { status = status_coded (kept_fault names kept q) }) → IsWritten q (kept_bytes names kept q) image to → length to ≡ length image → AreCoded e new to (place + 1)
 written-anew e names lines place kept q placements new image to u s a noted written long =
@@ -455,7 +454,7 @@ done-now e place x q image settled same half taken = by (half taken)
 alike : SameCode → (e : Change) (names : Tables) (lines : List KeptLine) (line : Reading) → IsEncodedUnder e names lines → agree_on names.before (values_of names.symbols) line ≡ true → AlikeIn e line
 alike law e names lines line u agree = rw (← u.before, ← u.symbols) (same-bytes line names.before (values_of names.symbols) (law line names.before (values_of names.symbols) agree))
 
--- a line that isn't to be encoded has its code
+-- a line that needn't be encoded has its code
 pub coded-still : SameCode → (e : Change) (names : Tables) (lines : List KeptLine) (place : ℕ) (kept : KeptLine) (q : Placement) (placements : List Placement) (image : List ℕ) → IsEncodedUnder e names lines → Stands e.now place kept q
     → AreCoded e placements image place → slice_get placements place ≡ Some q
     → (is_pending q.status || (not (agree_on names.before (values_of names.symbols) (reading_in kept)) && is_coded kept q)) ≡ false → AreCoded e placements image (place + 1)
@@ -472,7 +471,7 @@ coded-still law e names lines place kept q placements image u s a there still =
         let bare : has_code (body_of (reading_in kept)) ≡ false = rw accepted at none in
         no-code (body_of (reading_in kept)) (values_of (names_of_lines e.was)) bare ∙ sym (no-code (body_of (reading_in kept)) (values_of (names_of_lines e.now)) bare)
 
--- a line that is to be encoded is accepted
+-- a line that has to be encoded is accepted
 pub again-accepted : (q : Placement) (kept : KeptLine) (changed : Bool) → (is_pending q.status || (changed && is_coded kept q)) ≡ true → is_accepted q.status ≡ true
 again-accepted q kept changed again = by q.status again
   where
@@ -483,7 +482,7 @@ again-accepted q kept changed again = by q.status again
     by Done h = refl
     by (Uncoded f) h = refl
 
--- no line from one place up to another waits, and if there is one, the names have kept their values
+-- no line from one place up to another waits, and if there is such a line, the names have kept their values
 abbrev pub AreQuiet : Tables → List Placement → (start end : ℕ) → Type 0
 AreQuiet names placements start end = (j : ℕ) (q : Placement) → start ≤ j → j < end → slice_get placements j ≡ Some q → (names.before ≡ values_of names.symbols) × (q.status ≡ Pending → ⊥)
 
@@ -538,7 +537,7 @@ keeps-is : (e : Change) (line : Reading) (o : Option ℕ) → option_map_or (λ 
 keeps-is e line None = refl
 keeps-is e line (Some b) = refl
 
--- a line that is to be encoded doesn't keep its code, so it is encoded again if it has one and is
+-- a line that has to be encoded doesn't keep its code, so it is encoded again if it has code and is
 -- accepted
 pub again-more : (e : Change) (names : Tables) (lines : List KeptLine) (place : ℕ) (kept : KeptLine) (q : Placement) (placements : List Placement) (image : List ℕ) → IsEncodedUnder e names lines → Stands e.now place kept q
     → AreCoded e placements image place → slice_get placements place ≡ Some q
@@ -564,12 +563,12 @@ again-more e names lines place kept q placements image u s a there again before 
 
 -- the second pass is over
 
--- each accepted line has its code noted
+-- the code of each accepted line is recorded
 pub codes-noted : (e : Change) (placements : List Placement) (image : List ℕ) → AreCoded e placements image (length e.now) → AreCodesNoted placements e.now
 codes-noted e placements image a j x q there noted taken =
     (a.done j x q (omega (arith, slice_get_within (reverse (placed e.now)) j x there, length-numbered e.now)) there noted taken).noted
 
--- the bytes are those of the lines
+-- the image contains the bytes of the lines
 pub image-coded : (e : Change) (placements : List Placement) (image : List ℕ) → AreCoded e placements image (length e.now) → IsImageOf image e.now
 image-coded e placements image a = record {
   imaged = λ k inside. by k inside (cases_eq (get_or image k 0) (right_byte e.now k));
@@ -599,7 +598,7 @@ pub record IsHalfWay (e : Change) (lines : List KeptLine) (pass : Pass) (placeme
   pub laid : map found placements ≡ placements_of e.now
   pub coded : AreCoded e placements image 0
 
--- a mark leaves the status of an accepted line as it is
+-- a mark doesn't change the status of an accepted line
 note-half : (e : Change) (j : ℕ) (x : Placed) (was q : Placement) (image : List ℕ) → q ≡ cond (is_unclosed (placed e.now) x) (unclosed was) was → IsHeld e j x was image → IsHalfDone e j x q image
 note-half e j x was q image is held taken =
     subst (λ (p : Placement). IsCarried e j x p.status image) (sym (is ∙ by (is_unclosed (placed e.now) x) taken)) (held (accepted-effect (placed e.now) x taken))
@@ -640,8 +639,8 @@ half-done e lines pass placements now tally from image u long marks = record {
     walked : HasPassed placements pass e.now
     walked = walked-all e lines pass placements tally from image u
 
--- Both passes over the lines after an edit: the place where the first one begins, and the places
--- that the second one goes over.
+-- Both passes over the lines after an edit: the place where the first pass begins, and the places
+-- that the second pass handles.
 
 -- the place where the first pass begins
 

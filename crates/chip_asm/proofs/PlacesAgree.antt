@@ -1,4 +1,4 @@
--- Lines by place, and line by line.
+-- Facts about lines by place and line by line.
 use Rattle.std.proofs.Common.{◌≡◌, ℕ, zero, suc, ◌+◌, ◌-◌, ◌<◌, ◌≤◌, Bool, true, false, cond, not, ◌&&◌, ◌||◌, List, [], ◌∷◌, ◌++◌, map, reverse, length, take, drop, filter, find, take_while, sum_by, count_by, slice_get, refl, ap, sym, subst, ◌∙◌, arith, Option, Some, None, option_map, ◌⊎◌, inl, inr, leb-true, le-leb, ℤ, fold, append_assoc, is_none, unsigned_abs, Result, Ok, Err, le_antisymm, Decides, eqb, nat_eq, eq-eqb, eqb-true}
 use Rattle.std.specs.List.{list_any, list_all, position_or_len}
 use Rattle.std.proofs.lemmas.List.Folds.{Any-from_list_any, find_at, list_any-from_Any}
@@ -22,10 +22,10 @@ use Rattle.chip_lang.specs.Line.{Body, else_line, endif, Reading, bad, read, fau
 use Rattle.chip_asm.proofs.Placing.{onto}
 use Rattle.chip_asm.specs.Program.{is_unclosed}
 
--- The last line that passes a test, the IF lines that enclose the lines that follow, and the lines
--- before, by place: the lists from the nearest line back agree with the relations.
+-- The last line that passes a test, the enclosing IF lines, and the lines before, by place: the
+-- lists from the nearest line back agree with the relations.
 
--- places of a list with one element more
+-- the places of a list with one more element
 
 pub at-end : {A : Type 0} (xs ys : List A) (x : A) → slice_get (xs ++ x ∷ ys) (length xs) ≡ Some x
 at-end [] ys x = refl
@@ -45,7 +45,7 @@ turned xs k x h = grind (arith, gets, slice_get_cases, get_or-reverse, length-re
 pub turned-back : {A : Type 0} (xs : List A) (k : ℕ) (x : A) → slice_get (reverse xs) k ≡ Some x → slice_get xs (length xs - 1 - k) ≡ Some x
 turned-back xs k x h = grind (arith, gets, slice_get_cases, get_or-reverse, length-reverse)
 
--- the first of a list that passes a test
+-- the first element of a list that passes a test
 
 data First {A : Type 0} (test : A → Bool) (xs : List A) : Type 0 where
   first : (x : A) → slice_get xs (position_or_len test xs) ≡ Some x → test x ≡ true → find test xs ≡ Some x → First test xs
@@ -74,7 +74,7 @@ data Decided (Fits Known : ℕ → Placed → Type 0) (Otherwise : Type 0) : Typ
 abbrev back : List Placed → ℕ → ℕ
 back r k = length r - 1 - k
 
--- the two parts of a list that is turned
+-- the two parts of a reversed list
 halves : (r : List Placed) (k : ℕ) → k ≤ length r → (take (length r - k) (reverse r) ≡ reverse (drop k r)) × (drop (length r - k) (reverse r) ≡ reverse (take k r))
 halves r k h =
     let parts : reverse r ≡ reverse (drop k r) ++ reverse (take k r) = ap reverse (sym (take-append-drop k r)) ∙ reverse-append (take k r) (drop k r) in
@@ -83,7 +83,7 @@ halves r k h =
       ap (drop (length r - k)) parts ∙ ap (λ n. drop n (reverse (drop k r) ++ reverse (take k r))) long ∙ drop-append_seam (reverse (drop k r)) (reverse (take k r)),
     )
 
--- the lines behind a place
+-- the lines after a place
 behind : (r : List Placed) (k : ℕ) → k < length r → drop (back r k + 1) (reverse r) ≡ reverse (take k r)
 behind r k h = let after : back r k + 1 ≡ length r - k = omega arith in ap (λ n. drop n (reverse r)) after ∙ (halves r k (omega arith)).1
 
@@ -153,7 +153,7 @@ never-to : (b : List Placed) → Never (reverse b) → closes_no_more b ≡ true
 never-to b h =
     drops-to b (λ k low. (let n : ℕ = length b - k in omega (arith, h n, turned-count is_endif b n k low refl, turned-count is_if b n k low refl)))
 
--- the opener with the lines between, at its place from the nearest line back
+-- an enclosing IF line with the lines after it, at its place from the nearest line back
 to-between : (r : List Placed) (j : ℕ) (o : Placed) → Encloses (reverse r) j o
     → (slice_get (with_between r) (back r j) ≡ Some (take (back r j) r, o)) × (encloses (take (back r j) r, o) ≡ true)
 to-between r j o e =
@@ -252,10 +252,9 @@ enclosing-all f r h = true_from_ne_false (list_all f (enclosing r)) (λ fails. b
 any-turned : (test : Placed → Bool) (r : List Placed) → list_any test (reverse r) ≡ list_any test r
 any-turned test r = sym (list_any-IsPermutation test r (reverse r) (IsPermutation-reverse r))
 
--- The facts found line by line are the facts that hold of the lines by place, and no other facts
--- are.
+-- The facts found line by line are the facts that hold by place, and no other facts hold.
 
--- the result that the last such line gives
+-- the result for the last such line
 
 one-of-last : {X : Type 0} {Fits Known : ℕ → Placed → Type 0} {Otherwise : Type 0} (gives : ℕ → Placed → X) (otherwise x y : X) → Decided Fits Known Otherwise → IsFromLast Fits gives otherwise x → IsFromLast Fits gives otherwise y → x ≡ y
 one-of-last gives otherwise x y (last j p l k) a b = a.from_last j p l ∙ sym (b.from_last j p l)
@@ -409,7 +408,7 @@ abbrev with_parts : ℕ → Reading → Option ℕ → Bool → Bool → ℕ →
 with_parts number line block condition active here value fault size =
     record { number = number; line = line; block = block; condition = condition; active = active; here = here; value = value; fault = fault; size = size }
 
--- the parts of a line on which its fault depends
+-- the parts of a line that determine its fault
 abbrev looked_for : List Placed → Bool → Reading → Option ℕ → ℕ → ℤ → List (Option Fault)
 looked_for before aligning line block here value = first_pass_faults before aligning (with_parts 0 line block false false here value None 0)
 
@@ -423,7 +422,7 @@ fault-same r (read label body) =
     next-fault (is_stray (reverse r) (block_in r) body) (is_misplaced r body) StrayBranch (fault_if (is_redefinition (symbols r) label) DefinedTwice ∷ rest) _ (stray-same r body)
     (next-fault (is_redefinition (symbols r) label) (is_redefinition (symbols r) label) DefinedTwice rest _ refl (value-same (is_aligning r) (address r) body v))
 
--- a line after those before it
+-- a line after the lines before it
 
 is-placed : (r : List Placed) (line : Reading) → IsPlaced (reverse r) line (place r line)
 unfolding place symbols
@@ -542,7 +541,7 @@ number-at lines i p there = by (slice_get lines i) refl (agree lines)
 abbrev has_number : ℕ → Placed → Bool
 has_number n o = eqb o.number n
 
--- an enclosing line with the number of a place is the one there
+-- an enclosing line with the number of a place is the line there
 opener-at : (lines : List Reading) (i : ℕ) (p : Placed) (f : Placed → Bool) → slice_get (reverse (placed lines)) i ≡ Some p → ((o : Placed) → f o ≡ true → o.number ≡ i + 1) → list_any f (enclosing (placed lines)) ≡ true
     → Encloses (reverse (placed lines)) i p × (f p ≡ true)
 opener-at lines i p f there numbered h = by (any-enclosing f (placed lines) h)
@@ -564,7 +563,7 @@ unclosed-from lines i p there h =
       not_ended = ended-turned (placed lines) ∙ not-true (has_ended (placed lines)) more.1;
     }
 
--- no END came, and some enclosing line passes
+-- there is no active END, and some enclosing line passes
 any-open : (lines : List Reading) (i : ℕ) (p : Placed) (f : Placed → Bool) → IsUnclosed (reverse (placed lines)) i p → f p ≡ true → (not (has_ended (placed lines)) && list_any f (enclosing (placed lines))) ≡ true
 any-open lines i p f u h = and_from _ _ (ap not (sym (ended-turned (placed lines)) ∙ u.not_ended)) (enclosing-any f (placed lines) i p u.encloses h)
 
@@ -580,7 +579,7 @@ unclosed lines i p there = (unclosed-from lines i p there, unclosed-to lines i p
 abbrev pub opens_at : ℕ → Placed → Bool
 opens_at place o = o.active && nat_eq o.number (place + 1)
 
--- an IF without ENDIF is an active one whose block is open at the end
+-- an IF without ENDIF is an active IF whose block is open at the end
 pub open-at : (lines : List Reading) (i : ℕ) (p : Placed) → slice_get (reverse (placed lines)) i ≡ Some p → (not (has_ended (placed lines)) && list_any (opens_at i) (enclosing (placed lines))) ≡ is_unclosed (placed lines) p
 open-at lines i p there = one_answer (not (has_ended (placed lines)) && list_any (opens_at i) (enclosing (placed lines))) (is_unclosed (placed lines) p) (from, to) (unclosed lines i p there)
   where

@@ -49,7 +49,7 @@ pub numbered-place : (before : List Placed) (line : Reading) → IsNumbered befo
 unfolding place
 numbered-place before line n = (refl, ap (λ os. option_map (λ (o : Placed). o.number) (first_of os)) (enclosing-open before), n)
 
--- a fact that holds of no lines, and of one more line if it holds of the lines before
+-- a fact that holds for no lines, and for one more line if it holds for the lines before
 fold-keeps : (P : List Placed → Type 0) → ((before : List Placed) (line : Reading) → P before → P (onto before line)) → (before : List Placed) (lines : List Reading) → P before → P (fold onto before lines)
 fold-keeps P step before [] h = h
 fold-keeps P step before (line ∷ lines) h = fold-keeps P step (onto before line) lines (step before line h)

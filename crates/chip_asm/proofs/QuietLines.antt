@@ -1,4 +1,4 @@
--- Lines of which the first pass has to know only the size and the name.
+-- Lines about which the first pass needs only the size and the name.
 use Rattle.std.proofs.Common.{◌≡◌, ℕ, suc, ◌+◌, ℤ, pos, Bool, true, false, cond, ◌&&◌, ◌||◌, nat_lt, List, [], ◌∷◌, ◌++◌, length, refl, ap, sym, ◌∙◌, Option, Some, None, option_map, option_to_list, Ok, if◌then◌else◌, unsigned_abs, ◌<◌, ◌≤◌, get_or, subst, reverse, IfSome}
 use Rattle.std.specs.List.{list_all}
 use Rattle.std.specs.Option.{option_map_or}
@@ -24,12 +24,12 @@ use Rattle.chip_symbols.specs.Tables.{Tables, name_of, symbols_of}
 use Rattle.chip_asm.proofs.BlockSteps.{active_here}
 use Rattle.chip_asm.proofs.Resumed.{placement-at, follows-push}
 
--- A line that opens, turns and ends nothing can be put in the place of another such line.
+-- A line that opens, turns and ends nothing can replace another such line.
 
 -- statements
 
--- a plain statement opens, turns and closes no block, has no value of its own, doesn't move the
--- address, switch the padding or end the source, and gives its name the value of an address
+-- a plain statement opens, turns and closes no block, and has no value of its own. It doesn't move
+-- the address, switch the padding or end the source, and it gives its name the value of an address
 pub record Plain (b : Body) : Type 0 where
   pub no_if : is_if_body b ≡ false
   pub no_else : is_else_body b ≡ false
@@ -147,7 +147,7 @@ same-cons p xs ys s = record {
   sides = λ o. side-same p o xs ys (s.sides o);
 }
 
--- a line that affects the next ones only by its name and its size
+-- a line that affects the next lines only by its name and its size
 pub record Quiet (p : Placed) : Type 0 where
   pub no_if : is_if p ≡ false
   pub no_else : is_else p ≡ false
@@ -200,9 +200,9 @@ pub same-swapped : (p : Placed) (new : Reading) (before : List Placed) → AreAl
 same-swapped p new before e =
     quiet-same p (with_line p new) before (quiet-old p new e) (quiet-new p new e) (symbol-same p new e) refl
 
--- The result of the first pass for a line of which it has to know only the size and the name.
+-- The result of the first pass for a line about which it needs only the size and the name.
 
--- the number of a name, if there is one, says whether there is a name
+-- there is a number if and only if there is a name
 named-so : (keys : List Name) (defines : Option NameId) (name : Option Name) → IsNumberOf keys defines name → name_of keys defines ≡ name
 named-so keys None name n = sym n
 named-so keys (Some id) None n = absurd n
@@ -265,7 +265,7 @@ passed-plain pass names lines (read name body) at size defines active same f is 
     found_now =
         placement-at before line active pass.here None (pos 0) size (sym same ∙ active_here pass before body (rw (e.no_else, e.no_endif) refl) f) f.at_address (rw e.value refl) (faultless active b.named b.sized) (sizes active b.sized)
 
--- the facts kept beside the line at a place
+-- the facts stored about the line at a place
 pub info-here : (keys : List Name) (lines : List KeptLine) (place : ℕ) (kept : KeptLine) → AreInfos keys lines → place < length lines → kept ≡ get_or lines place kept → IsInfo keys kept.info kept.several (reading_in kept)
 info-here keys lines place kept infos inside is = subst (λ (k : KeptLine). IsInfo keys k.info k.several (reading_in k)) (sym is) (infos place kept inside)
 

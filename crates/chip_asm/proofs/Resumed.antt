@@ -34,11 +34,11 @@ use Rattle.chip_asm.specs.inner.KeptLine.{KeptLine}
 use Rattle.chip_asm.specs.inner.Records.{IsPlaceWithin, lines_after, reading_in, readings_in, first_changed}
 use Rattle.chip_asm.proofs.LinesAfter.{Edited, edited-lines, first-within, same-front, shorter}
 
--- The state of the pass after one line more.
+-- The state of the pass after one more line.
 
--- An IF line is active if and only if the blocks around it hold, unless an END came.
+-- An IF line is active if and only if the blocks around it hold, unless there was an END.
 
--- a fact about the open blocks if no END came
+-- a fact about the open blocks if there was no END
 abbrev pub Nests : List Placed → Type 0
 Nests before = has_ended before ≡ false → AreNested (map (block_of before) (enclosing before))
 
@@ -94,7 +94,7 @@ and_true true true = refl
 and_true true false = refl
 and_true false b = refl
 
--- the last block says whether all blocks hold
+-- the last block determines whether all blocks hold
 pub all-by-last : (items nearest : List Block) (b : Block) → items ≡ reverse nearest → AreNested nearest → slice_get items (length items - 1) ≡ Some b
     → (b.active && b.holds) ≡ list_all (λ (o : Block). o.holds) items
 all-by-last items [] b e n at = let none : Some b ≡ None = sym at ∙ ap (λ (l : List Block). slice_get l (length items - 1)) e in cc
@@ -156,7 +156,7 @@ follows-next pass next before p number numbered nests at_here at_condition is_nu
       active = a.active (map (block_of (p ∷ before)) (enclosing (p ∷ before))) open_blocks (λ yet. nests (sym ended ∙ yet));
     }
 
--- a whole list of lines, and one line more
+-- a list of lines, and one more line
 pub follows-push : (pass next : Pass) (lines : List Reading) (line : Reading) (number : ℕ) (q : Found) → number ≡ length lines + 1
     → Follows pass (placed lines) → q ≡ placement_of (place (placed lines) line) → Advances pass next line q number → Follows next (placed (lines ++ line ∷ []))
 follows-push pass next lines line number q n f e a =
@@ -171,7 +171,7 @@ pub none_from : (o : Option Fault) → is_none o ≡ true → o ≡ None
 none_from None h = refl
 none_from (Some x) h = cc
 
--- if the value has no fault, the line's own faults are the faults at the value
+-- if the result of the expression causes no fault, its value causes none
 pub fits_at : (a : Bool) (here : ℕ) (body : Body) (read : Result ℤ Fault) (v : ℤ) → v ≡ value_or_zero read → fault_of_value a here body read ≡ None → fault_of_value a here body (Ok v) ≡ None
 unfolding fault_of_value
 fits_at a here body (Ok w) v e h = rw e h
@@ -320,7 +320,7 @@ next-placed lines n line d h e =
 entry : Placed → Name → Name × Symbol
 entry p name = (name, record { value = value_given p.here p.value (body_of p.line); line = p.number })
 
--- the name that a line with its own number gives is a symbol of that line
+-- the name that a line with its own number defines is a symbol of that line
 given : (P : ℕ → Type 0) (p : Placed) → P p.number → All (λ (e : Name × Symbol). P e.1.line) (option_to_list (symbol_of p))
 unfolding entry
 given P p h = by (takes_effect p) (name_defined p.line)
@@ -351,7 +351,7 @@ symbols-begin : (before all : List Placed) (b : Begins before all) → symbols a
 unfolding symbols
 symbols-begin before all b = ap (filter_map symbol_of) b.is ∙ filter_map-append symbol_of (reverse before) b.rest
 
--- the symbols that the first lines give, and the symbols that the other lines give
+-- the symbols that the first lines define, and the symbols that the other lines define
 pub record NamesSplit (lines : List Reading) (n : ℕ) : Type 0 where
   pub later : List (Name × Symbol)
   pub is : names_of_lines lines ≡ symbols (placed (take n lines)) ++ later
@@ -386,7 +386,7 @@ resumes lines h =
     let s : AreSteadyLines (placed lines) = steady-placed lines h in
     record { aligning = still-aligning (placed lines) s; ended = not-ended (placed lines) s; open_blocks = no-blocks (placed lines) s }
 
--- an old layout has the placements of its first lines, if they are steady
+-- an old layout contains the placements of its first lines if they are steady
 pub first-laid : (layout : Layout) (lines : List Reading) (n : ℕ) → IsLayoutOf layout lines → n ≤ length lines → AllSteady (take n lines) → take n (map found layout.placements.items) ≡ first_placements (take n lines)
 first-laid layout lines n laid h steady = ap (take n) laid.placements ∙ placements-before lines n h (steady-placed (take n lines) steady)
 
@@ -509,9 +509,9 @@ end-high lines = (room lines).high
 pub within-memory : (lines : List Reading) (i : ℕ) (d : Placed) → i < length (reverse (placed lines)) → IsWithinMemory (get_or (reverse (placed lines)) i d)
 within-memory lines i d h = All-permutation IsWithinMemory (placed lines) (reverse (placed lines)) (IsPermutation-reverse (placed lines)) (room lines).lines i d h
 
--- The first lines, which an edit leaves as they are, and the facts about them before and after it.
+-- The first lines, which an edit doesn't change, and the facts about them before and after the edit.
 
--- the facts kept beside the first lines say that they are steady
+-- the facts stored about the first lines show that they are steady
 pub steady-readings : (keys : List Name) (lines : List KeptLine) (first : ℕ) → AreInfos keys lines → first ≤ length lines → AreSteady lines first → AllSteady (take first (readings_in lines))
 steady-readings keys lines first infos h steady =
     subst (All (λ (line : Reading). is_steady (body_of line) ≡ true)) (sym (take-map reading_in first lines))
@@ -528,7 +528,7 @@ steady-at lines first n line steady below there =
     ap (λ (l : Reading). is_steady (body_of l)) (sym (get_or_from_slice_get lines n line line there) ∙ sym (get_or-take first lines n line below))
     ∙ steady n line (omega (arith, length-take first lines))
 
--- the first lines stay, and are steady
+-- the first lines stay the same and are steady
 pub record Begun (lines : List KeptLine) (edit : LineEdit) (first : ℕ) : Type 0 where
   pub long : first ≤ length (readings_in lines)
   pub within : first ≤ length (lines_after lines edit)
@@ -563,7 +563,7 @@ pub same-placed : (was now : List Reading) (first n : ℕ) → take first was �
 same-placed was now first n same was_long now_long below =
     same-front (reverse (placed was)) (reverse (placed now)) first n (first-placed was first was_long ∙ ap (λ ls. reverse (placed ls)) same ∙ sym (first-placed now first now_long)) below
 
--- the symbols that are left of the symbols before the edit
+-- the symbols that remain after an edit
 pub begun-symbols : (was now : List Reading) (first : ℕ) → first ≤ length was → take first was ≡ take first now → (old left : List (Name × Symbol)) → old ≡ names_of_lines was
     → ((early later : List (Name × Symbol)) → old ≡ early ++ later → AreUpTo first early → AreOver first later → left ≡ early) → left ≡ symbols (placed (take first now))
 begun-symbols was now first long same old left names cut =

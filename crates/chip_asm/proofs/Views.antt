@@ -1,4 +1,4 @@
--- The facts about the texts that the kept parts give.
+-- The facts about the texts that the stored parts determine.
 use Rattle.std.proofs.Common.{◌≡◌, ℕ, List, map, ap, ◌∙◌, Option, subst, ◌≤◌, Bool, true, false, cond, count_by, refl, arith, ◌+◌, take, slice_get, Some, None}
 use Rattle.chip_lang.specs.Line.{Reading, reading_of}
 use Rattle.chip_asm.specs.declared.kept.Kept.{Kept}

@@ -52,7 +52,7 @@ unfolding placed address
 no-lines [] e = refl
 no-lines (l ∷ lines) e = absurd (omega arith)
 
--- the kept image reaches up to the address after the last line
+-- the stored image extends at least to the address after the last line
 pub image-room : (kept : Kept) → IsKept kept → kept.layout.end ≤ vec_len kept.image + IMAGE_START
 image-room kept k = by (length kept.lines.items) refl
   where
@@ -144,7 +144,7 @@ faults-counted layout lines laid = laid.counted ∙ count-numbered (placed lines
 abbrev pub faults_to : List Reading → ℕ → List (ℕ × Fault)
 faults_to lines n = filter_map (numbered_fault (placed lines)) (take n (reverse (placed lines)))
 
--- one line more
+-- one more line
 pub next-fault : (layout : Layout) (lines : List Reading) (i : ℕ) (q : Placement) (f : Option Fault) → IsLayoutOf layout lines → slice_get layout.placements.items i ≡ Some q → fault_noted q.status ≡ f
     → faults_to lines (i + 1) ≡ faults_to lines i ++ cons_option (option_map {U = ℕ × Fault} (λ g. (i + 1, g)) f) []
 next-fault layout lines i q f laid noted is =
@@ -159,7 +159,7 @@ next-fault layout lines i q f laid noted is =
 pub faults-all : (lines : List Reading) (n : ℕ) → length lines ≤ n → faults_to lines n ≡ faults_of_lines lines
 faults-all lines n h = ap (filter_map (numbered_fault (placed lines))) (take_all n (reverse (placed lines)) (omega (arith, length-numbered lines)))
 
--- the kept bytes of a line are its own
+-- the stored bytes of a line are its own
 pub bytes-found : (image : List ℕ) (lines : List Reading) (i : ℕ) (q : Found) (a : AtPlace lines i q) → IsImageOf image lines → (k : ℕ) → k < q.size
     → get_or image (q.here - IMAGE_START + k) 0 ≡ get_or (bytes_in_code (code_under (placed lines) a.x)) k 0
 bytes-found image lines i q a m k h =
@@ -168,7 +168,7 @@ bytes-found image lines i q a m k h =
     m.imaged (q.here - IMAGE_START + k) (omega (arith, high lines i q a)) ∙ ap (byte_at (placed lines)) at ∙ byte-line lines i q a (q.here + k) (covering q.here q.size (q.here + k) (omega arith) (omega arith))
     ∙ ap (λ n. get_or (bytes_in_code (code_under (placed lines) a.x)) n 0) own
 
--- The facts reported about each line, given what is kept of it.
+-- The facts reported about each line, given the stored parts.
 
 zip-at : {X Y : Type 0} (xs : List X) (ys : List Y) (i : ℕ) (x : X) (y : Y) → slice_get xs i ≡ Some x → slice_get ys i ≡ Some y → slice_get (zip xs ys) i ≡ Some (x, y)
 zip-at [] ys i x y a b = cc
@@ -220,7 +220,7 @@ facts-kept kept i line q bytes k there noted long each =
         ∙ ap (told a.x.number line.text a.x.active a.x.here a.x.value (fault_of all a.x))
         (bytes-of lines i q a bytes long (λ n h. each n h ∙ bytes-found kept.image.items lines i (found q) a k.image n h))
 
--- the facts reported about the texts are the facts given by what is kept
+-- the facts reported about the texts are the facts determined by the stored parts
 pub facts-view : (kept : Kept) (texts : List (List ℕ)) → IsKept kept → texts_in kept.lines.items ≡ texts → line_facts texts ≡ facts_of_lines (placed (readings_in kept.lines.items)) (texts_in kept.lines.items)
 unfolding line_facts
 facts-view kept texts k t = sym (ap (λ rs. facts_of_lines (placed rs) (texts_in kept.lines.items)) k.are_read ∙ ap (λ ts. facts_of_lines (placed (map reading_of ts)) ts) t)
@@ -235,7 +235,7 @@ length-facts texts =
     ∙ ap (λ n. min n (length texts)) (length-numbered lines ∙ length-map texts reading_of)
     ∙ min-eq_left (omega arith)
 
--- the reading of a kept line is that of its text
+-- the reading of a stored line is the reading of its text
 pub read-kept : (kept : Kept) (i : ℕ) (line : KeptLine) → IsKept kept → slice_get kept.lines.items i ≡ Some line → reading_in line ≡ reading_of line.text
 read-kept kept i line k there =
     same_Some (reading_in line) (reading_of line.text)
@@ -269,13 +269,13 @@ line-at-place texts i =
     let same : i + 1 - 1 ≡ i = omega arith in
     rw (other, same) refl
 
--- The places at which the image stays as it is when a line is replaced by one with the same effect.
+-- The places at which the image stays the same when a line is replaced by one with the same effect.
 
--- the image as it is kept
+-- the stored image
 abbrev pub kept-image : Kept → List ℕ
 kept-image kept = take (kept.layout.end - IMAGE_START) kept.image.items
 
--- the kept image is the image of the lines if no line has a fault
+-- the stored image is the image of the lines if no line has a fault
 pub image-kept : (kept : Kept) → IsKept kept → kept.layout.faults ≡ 0 → image_of (texts_kept kept) ≡ Some (kept-image kept)
 unfolding image_of
 image-kept kept k none =
@@ -321,7 +321,7 @@ module _ (old new : Kept) (q : Placement) (bytes : List ℕ) (was : IsKept old) 
           get_or_past (take size old.image.items) k 0 (omega (arith, length-take size old.image.items))
           ∙ sym (get_or_past (take size new.image.items) k 0 (omega (arith, length-take size new.image.items)))
 
-  -- if there was an image, the image after it agrees with it outside the places that were written
+  -- if there was an image, the new image agrees with it outside the places that were written
   pub agrees-outside : old.layout.faults ≡ 0 → AgreesOutside (q.here - IMAGE_START) (q.here - IMAGE_START + q.size) (image_of (texts_kept old)) (image_of (texts_kept new))
   unfolding IsOutside
   agrees-outside none = rw (image-kept old was none) (by (image_of (texts_kept new)) refl)

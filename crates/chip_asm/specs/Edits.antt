@@ -1,5 +1,5 @@
--- Edits of the lines of a source: when one is refused, and which place each line had before (chosen
--- by this project). Line numbers count from 1, places from 0.
+-- Edits of the lines of a source: when an edit is refused, and which place each line had before it
+-- (chosen by this project). Line numbers count from 1, places from 0.
 use Rattle.std.specs.Prelude.{ℕ, ◌+◌, ◌-◌, ◌&&◌, ◌||◌, not, ◌==◌, Bool, List, nat_lt, nat_le, nat_eq, Option, Some, None, if◌then◌else◌}
 use Rattle.std.specs.List.{list_any}
 use Rattle.chip_asm.specs.declared.limits.TheConstants.{MOST_LINES}

@@ -1,6 +1,6 @@
--- Terms for the facts about a line of a source: its statement, the name that it gives, the bytes
+-- Terms for the facts about a line of a source: its statement, the name that it defines, the bytes
 -- that it takes, and its possible faults (Chipper manual; where the manual is silent, chosen by
--- this project). The file Places states which facts hold of which line.
+-- this project). The file Places states which facts hold for which line.
 use Rattle.std.specs.Prelude.{ℕ, ◌+◌, ◌*◌, ◌%◌, ℤ, pos, unsigned_abs, int_lt, Bool, true, false, not, ◌&&◌, ◌||◌, List, [], ◌∷◌, length, Option, Some, None, is_some, is_none, Result, Ok, Err, if◌then◌else◌, nat_eq, nat_lt, ◌==◌, option_map}
 use Rattle.std.specs.List.{list_any}
 use Rattle.chip_lang.specs.declared.limits.TheConstants.{MEMORY_BYTES}
@@ -15,7 +15,7 @@ use Rattle.chip_symbols.specs.Names.{Name, lookup_name, values_of}
 pub record Placed : Type 0 where
   pub number : ℕ
   pub line : Reading
-  -- the number of the last IF line that encloses it
+  -- the number of the last IF line that encloses the line
   pub block : Option ℕ
   -- for an IF line, whether its condition holds
   pub condition : Bool
@@ -63,7 +63,7 @@ is_else p = is_else_body (body_of p.line)
 abbrev pub is_endif : Placed → Bool
 is_endif p = is_endif_body (body_of p.line)
 
--- true for an active line without a fault: it gives its name, moves the address and switches the
+-- true for an active line without a fault: it defines its name, moves the address and switches the
 -- alignment; an IF without ENDIF, whose fault is found at the end, does none of this
 abbrev pub takes_effect : Placed → Bool
 takes_effect p = p.active && is_none p.fault
@@ -75,7 +75,7 @@ value_given here value (equ e) = value
 value_given here value define = pos 0
 value_given here value _ = pos here
 
--- the name that a line gives, with its value and the number of the line
+-- the name that a line defines, with its value and the number of the line
 abbrev pub symbol_given : ℕ → ℕ → ℤ → Reading → Option (Name × Symbol)
 symbol_given number here value line =
     option_map
@@ -95,11 +95,11 @@ abbrev pub is_number : ℕ → Option ℕ → Bool
 is_number n None = false
 is_number n (Some m) = m == n
 
--- true if an ELSE that belongs to the IF comes before
+-- true if an ELSE that belongs to the IF is among these lines
 unfoldable pub has_else : List Placed → Placed → Bool
 has_else before opener = list_any (λ p. is_else p && is_number opener.number p.block) before
 
--- true if the condition of the IF holds on the side that is reached
+-- true if the condition of the IF holds on the current side
 abbrev pub holds : List Placed → Placed → Bool
 holds before opener = if has_else before opener then not opener.condition else opener.condition
 
@@ -137,7 +137,7 @@ value_at names (org e) = value e (values_of names)
 value_at names (ds e) = value e (values_of names)
 value_at names _ = Ok (pos 0)
 
--- the number of bytes of the line itself
+-- the number of the line's own bytes, without padding
 abbrev pub own_size : Body → ℤ → ℕ
 own_size (code form operands) value = 2
 own_size (db es) value = length es

@@ -1,15 +1,15 @@
--- The definitions of whole sources, which a reader has to believe.
+-- The definitions of whole sources. They are part of the trusted base.
 --     Lines        the lines of a source, and whether it opens
 --     Edits        when an edit is refused
---     Layout       terms for a line: its statement, the name that it gives, the bytes that it takes
+--     Layout       terms for a line: its statement, the name that it defines, the bytes that it takes
 --     Places       the facts about each line: whether it is active, its address, its fault
 --     Program      names, faults and image of a source
 --     LineViews    the facts that a source reports about each line
 --     Listing      the listing
---     Work         the lines that are encoded anew because of an edit
+--     Work         the lines that are encoded again because of an edit
 --     Sources      a source as contracts see it
---     computed     functions that find what Places states as a relation; laws say that the two
---                  agree
+--     computed     functions that compute the facts that Places states as a relation; laws state
+--                  that the two agree
 --     inner        definitions for private functions; no public clause cites them, and a reader may
 --                  skip them
 pub mod Edits

@@ -14,7 +14,7 @@ pub record LineFacts : Type 0 where
   pub number : ℕ
   pub text : List ℕ
   pub active : Bool
-  -- the address of the line, or the one that it would have if it were active
+  -- the address of the line, or the address that it would have if it were active
   pub address : ℕ
   -- the value of the line's expression, if it is an EQU, ORG or DS line
   pub value : ℤ
@@ -26,7 +26,7 @@ pub record LineFacts : Type 0 where
 abbrev pub with_zeros : (size : ℕ) → (own : List ℕ) → List ℕ
 with_zeros size own = map (slice_index own) (range_with_len 0 size)
 
--- the facts about a line, given how it is placed among all lines, and given its text
+-- the facts about a line, given its placement among all lines and its text
 abbrev pub facts_of : List Placed → Placed → (text : List ℕ) → LineFacts
 facts_of all p text =
     record {
@@ -51,14 +51,14 @@ abbrev pub line_at : (texts : List (List ℕ)) → (number : ℕ) → Option Lin
 line_at texts number =
     if nat_eq number 0 then None else slice_get (line_facts texts) (number - 1)
 
--- the value that a statement gives its name by EQU or DEFINE
+-- the value that a statement assigns to its name by EQU or DEFINE
 abbrev pub value_defined : ℤ → Body → Option ℤ
 value_defined value (equ e) = Some value
 value_defined value define = Some (pos 0)
 value_defined value _ = None
 
--- the value that an active line without a fault gives a name by EQU or DEFINE; none for any other
--- line
+-- the value that an active line without a fault assigns to a name by EQU or DEFINE; none for any
+-- other line
 abbrev pub definition_of : LineFacts → Option ℤ
 definition_of f =
     if f.active && is_none f.fault

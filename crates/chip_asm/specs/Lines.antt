@@ -14,16 +14,16 @@ lines_of bytes = lines bytes
 abbrev pub is_long : List ℕ → Bool
 is_long text = nat_lt LINE_BYTES (length text)
 
--- the fault of `count` lines, of which the first that is too long has the index `first`; if none is
--- too long, `first` is `count`
+-- the fault of `count` lines; `first` is the index of the first line that is too long, or `count`
+-- if no line is too long
 abbrev pub fault_of_lines : ℕ → ℕ → Option OpenError
 fault_of_lines first count =
     if nat_lt first count && nat_lt first MOST_LINES then Some (LineTooLong (first + 1))
     else if nat_lt MOST_LINES count then Some TooManyLines
     else None
 
--- the reason why a source doesn't open to its lines: the first line that is too long or one too
--- many
+-- the reason why a source doesn't open: the first line that is too long or exceeds the greatest
+-- number of lines
 abbrev pub open_fault : List ℕ → Option OpenError
 open_fault source =
     fault_of_lines (position_or_len is_long (lines_of source)) (length (lines_of source))

@@ -1,4 +1,4 @@
--- The listing of a source: a row for each line, with its number, its address, its bytes or value or
+-- The listing of a source: a row for each line, with its number, its address, its bytes, value or
 -- fault, and its text (chosen by this project).
 use Rattle.std.specs.Prelude.{ℕ, ◌-◌, ℤ, Bool, ◌&&◌, List, ◌∷◌, [], ◌++◌, length, map, min, replicate, Option, Some, None, is_none, if◌then◌else◌, nat_lt, codes, option_map, slice_index}
 use Rattle.std.specs.List.{flat_map, range_with_len}
@@ -8,8 +8,7 @@ use Rattle.chip_lang.specs.FaultNumber.{number_of_fault}
 use Rattle.chip_lang.specs.Show.{two_hex_digits, four_hex_digits}
 use Rattle.chip_asm.specs.LineViews.{LineFacts, definition_of, line_facts}
 
--- a text at the right of so many places, with spaces before it, and a text at the left, with spaces
--- after it
+-- a text right-aligned in this many columns, and a text left-aligned in this many columns
 abbrev pub at_right : ℕ → List ℕ → List ℕ
 at_right places text = replicate (places - length text) 32 ++ text
 
@@ -20,7 +19,7 @@ at_left places text = text ++ replicate (places - length text) 32
 abbrev pub address_shown : Bool → ℕ → List ℕ
 address_shown active address = if active then four_hex_digits address else codes "----"
 
--- the first `count` bytes in hexadecimal, with zeros past the last one
+-- the first `count` bytes in hexadecimal, with zeros past the last byte
 abbrev pub bytes_shown : ℕ → List ℕ → List ℕ
 bytes_shown count bytes = flat_map two_hex_digits (map (slice_index bytes) (range_with_len 0 count))
 
@@ -42,7 +41,7 @@ row value f =
     ++ 32 ∷ at_left 12 (field_shown f.fault value f.bytes)
     ++ more_shown f.fault (length f.bytes) ∷ 32 ∷ f.text ++ 10 ∷ []
 
--- the listing's row for a line, in which `write` gives the text of a definition's value
+-- the listing's row for a line, in which `write` returns the text of a definition's value
 abbrev pub row_by : (write : ℤ → List ℕ) → LineFacts → List ℕ
 row_by write f = row (option_map write (definition_of f)) f
 

@@ -1,7 +1,7 @@
--- The facts about each line of a source, by its place in the list of all lines (Chipper manual;
--- where the manual is silent, chosen by this project): a relation between the lines and the facts
--- about them. Laws say that the facts that `computed/Walk` finds line by line satisfy this
--- relation, and that no other facts do. `before` has the lines before a line, the first one first.
+-- The facts about each line of a source, by its place in the list of all lines (Chipper manual; where the manual is
+-- silent, chosen by this project): a relation between the lines and the facts about them. Laws state that the facts
+-- that `computed/Walk` finds line by line satisfy this relation, and that no other facts do. `before` contains the
+-- lines before a line, the first one first.
 use Rattle.std.specs.Prelude.{◌≡◌, ℕ, ◌+◌, ◌-◌, ◌<◌, ◌≤◌, ◌⊎◌, ℤ, unsigned_abs, Bool, true, false, not, ◌&&◌, List, [], ◌∷◌, length, take, drop, Option, Some, None, is_some, Result, Ok, Err, if◌then◌else◌, sum_by, count_by, filter_map, slice_get, slice_index, Decides}
 use Rattle.std.specs.List.{list_any}
 use Rattle.chip_lang.specs.declared.limits.TheConstants.{IMAGE_START}
@@ -24,7 +24,7 @@ pub record IsLast (Fits : ℕ → Placed → Type 0) (j : ℕ) (p : Placed) : Ty
   pub fits : Fits j p
   pub latest : (k : ℕ) (q : Placed) → Fits k q → k ≤ j
 
--- x is what the last line that fits gives; if no line fits, x is `other`
+-- x is the result of `gives` for the last line that fits; if no line fits, x is `other`
 pub record IsFromLast {X : Type 0} (Fits : ℕ → Placed → Type 0) (gives : ℕ → Placed → X)
     (other x : X) : Type 0 where
   pub from_last : (j : ℕ) (p : Placed) → IsLast Fits j p → x ≡ gives j p
@@ -33,7 +33,7 @@ pub record IsFromLast {X : Type 0} (Fits : ℕ → Placed → Type 0) (gives : �
 -- blocks
 
 -- The IF line at place j encloses the lines that follow: for each n, the first n lines after it
--- have at most as many ENDIF lines as IF lines.
+-- contain at most as many ENDIF lines as IF lines.
 pub record Encloses (before : List Placed) (j : ℕ) (opener : Placed) : Type 0 where
   pub there : slice_get before j ≡ Some opener
   pub opens : is_if opener ≡ true
@@ -42,8 +42,8 @@ pub record Encloses (before : List Placed) (j : ℕ) (opener : Placed) : Type 0 
       ≤ count_by is_if (take n (drop (j + 1) before))
 
 -- No line before is an active END. An ELSE or ENDIF is active if the last IF that encloses it is
--- active, or if none encloses it. Any other line is active if the condition of each IF that
--- encloses it holds on the side that is reached.
+-- active, or if no IF encloses it. Any other line is active if the condition of each IF that
+-- encloses it holds on the current side.
 pub record IsActive (before : List Placed) (body : Body) : Type 0 where
   pub not_ended : has_ended before ≡ false
   pub side_or_end : is_side_or_end body ≡ true
@@ -64,7 +64,7 @@ IsAfter before address =
     (λ j org. unsigned_abs org.value + sizes (drop (j + 1) before)) (IMAGE_START + sizes before)
     address
 
--- the names that these lines give, in line order
+-- the names that these lines define, in line order
 abbrev pub names_given : List Placed → List (Name × Symbol)
 names_given = filter_map symbol_of
 
@@ -84,7 +84,7 @@ is_stray before None body = is_side_or_end body
 is_stray before (Some number) body =
     is_else_body body && list_any (λ q. is_else q && is_number number q.block) before
 
--- the faults of a line, in the order in which they are looked for
+-- the possible faults of a line; the first one that applies counts
 abbrev pub first_pass_faults : List Placed → Bool → Placed → List (Option Fault)
 first_pass_faults before aligning p =
     fault_of_reading p.line
@@ -100,7 +100,7 @@ first_pass_faults before aligning p =
 pub record IsPlaced (before : List Placed) (line : Reading) (p : Placed) : Type 0 where
   pub number : p.number ≡ length before + 1
   pub is_line : p.line ≡ line
-  -- the last IF line that encloses it
+  -- the last IF line that encloses the line
   pub block : IsFromLast (Encloses before) (λ j opener. Some opener.number) None p.block
   pub condition : p.condition ≡ condition_of (names_given before) (body_of line)
   pub active : Decides p.active (IsActive before (body_of line))
@@ -120,8 +120,8 @@ pub record ArePlaced (lines : List Reading) (all : List Placed) : Type 0 where
   pub each : (i : ℕ) (line : Reading) (p : Placed)
       → slice_get lines i ≡ Some line → slice_get all i ≡ Some p → IsPlaced (take i all) line p
 
--- an IF without ENDIF in a whole source: it is active, it encloses what would follow, and there is
--- no active END
+-- an IF without ENDIF in a whole source: it is active, it encloses any line that would follow, and
+-- there is no active END
 pub record IsUnclosed (all : List Placed) (i : ℕ) (p : Placed) : Type 0 where
   pub encloses : Encloses all i p
   pub active : p.active ≡ true
@@ -143,9 +143,9 @@ code_with names line = own_bytes (body_of line) (values_of names)
 abbrev pub code_among : List Placed → Placed → Result (List ℕ) Fault
 code_among all p = code_with (names_given all) p.line
 
--- the image of a whole source, if no line has a fault: it reaches up to the address after the last
--- line; the own bytes of each line are at the line's address, with zeros after them up to the
--- line's size; and there are zeros where no line is
+-- the image of a whole source, if no line has a fault: the image extends to the address after the
+-- last line; the own bytes of each line are at the line's address, followed by zeros up to the
+-- line's size; and every address that no line covers contains a zero
 pub record IsImage (all : List Placed) (bytes : List ℕ) : Type 0 where
   pub up_to : IsAfter all (IMAGE_START + length bytes)
   pub of_line : (i k : ℕ) (p : Placed) → slice_get all i ≡ Some p → k < p.size
@@ -157,8 +157,8 @@ pub record IsImage (all : List Placed) (bytes : List ℕ) : Type 0 where
       → slice_index bytes k ≡ 0
 
 -- the fault of the line at place i of a whole source, if it has one: a line that isn't active has
--- none; an active line has the fault of an IF without ENDIF, or else the fault of the first pass,
--- or else the fault of its own bytes
+-- no fault; an active line has the fault of an IF without ENDIF, or else the fault of the first
+-- pass, or else the fault of its own bytes
 pub record IsFaultOf (all : List Placed) (i : ℕ) (p : Placed) (fault : Option Fault) : Type 0 where
   pub not_active : p.active ≡ false → fault ≡ None
   pub unclosed : IsUnclosed all i p → fault ≡ Some UnclosedIf

@@ -13,11 +13,11 @@ use Rattle.chip_asm.specs.Layout.{Placed, is_if, has_ended}
 use Rattle.chip_asm.specs.computed.Walk.{placed, symbols, enclosing, address}
 pub use Rattle.chip_asm.specs.Places.{bytes_in_code, code_with, fault_in_code}
 
--- the names that some lines give, each with its symbol
+-- the names that these lines define, each with its symbol
 abbrev pub names_of_lines : List Reading → List (Name × Symbol)
 names_of_lines lines = symbols (placed lines)
 
--- true for an active IF that would enclose one more line, in a source that no END ends
+-- true for an active IF that would enclose one more line, in a source without an active END
 abbrev pub is_unclosed : List Placed → Placed → Bool
 is_unclosed all p =
     is_if p && p.active && not (has_ended all)
@@ -55,8 +55,8 @@ faults_of_lines lines = filter_map (numbered_fault (placed lines)) (reverse (pla
 abbrev pub covers : ℕ → Placed → Bool
 covers at p = nat_le p.here at && nat_lt at (p.here + p.size)
 
--- the byte at an address: that of the line that covers it; 0 past the line's own bytes, and where
--- no line covers the address
+-- the byte at an address, taken from the line that covers the address; 0 past that line's own
+-- bytes, and if no line covers the address
 unfoldable pub byte_at : List Placed → ℕ → ℕ
 byte_at all at =
     option_map_or (λ p. slice_index (bytes_in_code (code_under all p)) (at - p.here))
@@ -75,7 +75,7 @@ image_of_lines lines = unless_faulty (faults_of_lines lines) (bytes_of_lines (pl
 
 -- Functions of the texts of a source:
 
--- the names that the source gives, in line order, each with its value and the number of its line
+-- the names that the source defines, in line order, each with its value and the number of its line
 unfoldable pub symbols_of : List (List ℕ) → List (Name × Symbol)
 symbols_of texts = names_of_lines (map reading_of texts)
 
@@ -92,7 +92,7 @@ unfoldable pub image_of : List (List ℕ) → Option (List ℕ)
 image_of texts = image_of_lines (map reading_of texts)
 
 -- there was an image before, and the image after, if there is one, agrees with it except at the
--- places from `first` up to `end`; past its last byte, an image is taken to have zeros
+-- places from `first` up to `end`; an image counts as zero past its last byte
 abbrev pub AgreesOutside : (first end : ℕ) → (before after : Option (List ℕ)) → Type 0
 AgreesOutside first end None after = ⊥
 AgreesOutside first end (Some old) None = Unit

@@ -1,4 +1,4 @@
--- The lines that are encoded anew because of an edit (chosen by this project).
+-- The lines that are encoded again because of an edit (chosen by this project).
 use Rattle.std.specs.Prelude.{ℕ, Bool, false, not, ◌&&◌, List, map, reverse, count_by, Option, slice_get, is_none}
 use Rattle.std.specs.List.{enumerate_from}
 use Rattle.std.specs.Option.{option_map_or}
@@ -23,8 +23,8 @@ abbrev pub accepted_lines : List Reading → ℕ
 accepted_lines lines = count_by (λ at. is_accepted_at lines at.0) (enumerate_from 0 lines)
 
 -- True for a line of the new source, with its place, that has to be encoded: it is accepted there,
--- and it is the new line, or it wasn't accepted in the old source, or a name that it uses has
--- another value now. `origin` gives the place that the line at a place had before.
+-- and it is the new line, or it wasn't accepted in the old source, or a name that it uses has a
+-- different value now. `origin` returns the place that the line at a place had before.
 unfoldable pub needs : (old new : List Reading) → (origin : ℕ → Option ℕ) → ℕ × Reading → Bool
 needs old new origin at =
     is_accepted_at new at.0

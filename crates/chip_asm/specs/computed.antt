@@ -1,3 +1,3 @@
--- Functions that compute what the manual states as a relation. Public laws say that the two agree
+-- Functions that compute what the manual states as a relation. Public laws state that the two agree
 -- in both directions.
 pub mod Walk

@@ -1,6 +1,6 @@
 -- Definitions for private functions. Blocks and Placements are about the first pass; HeldText,
--- KeptLine, Facts, Infos and Records are about kept lines; Codes is about the codes of lines;
--- Passes is about both passes; and Kept is about all of it.
+-- KeptLine, Facts, Infos and Records are about stored lines; Codes is about the codes of lines;
+-- Passes is about both passes; and Kept is about everything that is stored.
 pub mod Blocks
 pub mod Codes
 pub mod Facts

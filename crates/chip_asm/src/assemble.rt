@@ -22,8 +22,8 @@ use chip_lang::laws::{kept_value, same_code};
 use chip_symbols::Table;
 use std::ops::Range;
 
-/// The number of leading lines before `place` that are steady, up to the first that isn't; the
-/// caller knows that the first `known` lines are.
+/// The number of steady lines before `place`, up to the first line that isn't steady. The caller
+/// knows that the first `known` lines are steady.
 pub(crate) fn steady_lines(lines: &[BoxedLine], known: usize, place: usize) -> usize
     requires place { place ≤ length lines.now }
     requires within { known ≤ place }
@@ -40,8 +40,8 @@ pub(crate) fn steady_lines(lines: &[BoxedLine], known: usize, place: usize) -> u
     place
 }
 
-/// Whether each name that a line uses has the same value as before the edit, or had none and has
-/// none.
+/// Whether each name that a line uses has the same value as before the edit, or had no value and
+/// still has none.
 #[inline(always)]
 fn keeps_values(names: &Table, kept: &BoxedLine) -> bool
     requires { IsInfo names.now.keys kept.now.info kept.now.several (reading_in kept.now) }
@@ -56,8 +56,8 @@ fn keeps_values(names: &Table, kept: &BoxedLine) -> bool
     }
 }
 
-/// The value of the expression of a line, if it is known because the line was accepted before and
-/// its names keep their values.
+/// The value of the expression of a line; none unless it is known because the line was accepted
+/// before and its names keep their values.
 #[inline(never)]
 fn known_value(names: &Table, kept: &BoxedLine, was: &Placement) -> Option<i32>
     requires info { IsInfo names.now.keys kept.now.info kept.now.several (reading_in kept.now) }
@@ -74,9 +74,9 @@ fn known_value(names: &Table, kept: &BoxedLine, was: &Placement) -> Option<i32>
     }
 }
 
-/// Makes the first pass over the line at a place. A line that was accepted and still is gets its
-/// code copied from the image before the edit. A line that is accepted now but wasn't before waits
-/// for its code.
+/// Runs the first pass over the line at a place. If the line was accepted and still is, its code is
+/// copied from the image before the edit. If it is accepted now but wasn't before, it waits for its
+/// code.
 fn pass_line(
     pass: &mut Pass,
     lines: &[BoxedLine],
@@ -111,7 +111,7 @@ fn pass_line(
     tally.put(placements, place, now);
 }
 
-/// Makes the first pass over the lines from a place to the end.
+/// Runs the first pass over the lines from a place to the end.
 pub(crate) fn walk(
     pass: &mut Pass,
     lines: &[BoxedLine],
@@ -135,8 +135,8 @@ pub(crate) fn walk(
     }
 }
 
-/// Whether a line plainly needs no encoding: it doesn't wait for its code, and none of its names
-/// has another value than before the edit. False for each line that uses several names.
+/// Whether a line clearly needs no encoding: it doesn't wait for its code, and its name, if it uses
+/// one, has the same value as before the edit. False for each line that uses several names.
 #[inline(always)]
 fn is_settled(changed: &[bool], kept: &BoxedLine, status: Status) -> bool
     requires { (names : Tables)
@@ -173,7 +173,7 @@ fn is_again(names: &Table, kept: &BoxedLine, status: Status) -> bool
     kept.info().is_coded && status.is_accepted() && !keeps_values(names, kept)
 }
 
-/// The first place from `start` on whose line isn't settled; `end` if there is none.
+/// The first place from `start` on whose line isn't settled; `end` if there is no such line.
 #[inline(never)]
 fn next_unsettled(
     changed: &[bool],
@@ -200,8 +200,8 @@ fn next_unsettled(
     place
 }
 
-/// Makes the second pass over the lines at some places. A line is encoded if it waits for its code
-/// or if its names have other values than before the edit.
+/// Runs the second pass over the lines at some places. A line is encoded if it waits for its code
+/// or if one of its names has a different value than before the edit.
 #[inline(never)]
 pub(crate) fn encode_lines(
     meter: &mut Meter,

@@ -8,7 +8,7 @@ ghost use Rattle.chip_asm.specs.declared.block.Block.{Block};
 use chip_lang::Body;
 
 /// An open block: the number of its IF line, whether that line was active, whether its condition
-/// holds on this side, and whether an ELSE came.
+/// holds on the current side, and whether an ELSE has followed.
 #[derive(Clone, Copy)]
 pub(crate) struct Block {
     pub(crate) number: usize,
@@ -17,8 +17,8 @@ pub(crate) struct Block {
     pub(crate) has_else: bool,
 }
 
-/// Whether every block holds on its side. The last block decides, because it was opened active if
-/// and only if the blocks around it hold.
+/// Whether every block holds on its current side. The last block decides, because its IF line was
+/// active if and only if the blocks around it hold.
 pub(crate) fn all_hold(blocks: &[Block]) -> bool
     ensures { (nearest : List Block) → blocks.now ≡ reverse nearest → AreNested nearest
         → result ≡ list_all (λ b. b.holds) blocks.now }
@@ -29,7 +29,7 @@ pub(crate) fn all_hold(blocks: &[Block]) -> bool
     }
 }
 
-/// The other side of a block; a block that already had an ELSE stays as it is.
+/// The other side of a block; a block that already had an ELSE stays the same.
 fn turned(block: Block) -> Block
     ensures { result ≡ turned_block block }
 {
@@ -45,8 +45,8 @@ fn turned(block: Block) -> Block
     }
 }
 
-/// Changes the open blocks, of which the innermost is last: an IF opens a block, an ELSE turns the
-/// last one to its other side, an ENDIF closes the last one.
+/// Updates the open blocks, with the innermost one last: an IF opens a block, an ELSE switches the
+/// last block to its other side, and an ENDIF closes the last block.
 pub(crate) fn move_blocks(blocks: &mut Vec<Block>, body: &Body, opened: Block)
     requires room { vec_len blocks.old < vec_capacity blocks.old }
     ensures items { (nearest : List Block) → blocks.old.items ≡ reverse nearest

@@ -17,7 +17,7 @@ use chip_lang::{Fault, Meter, encode_into};
 use chip_symbols::{OneName, Scope, Table};
 use std::ops::Range;
 
-/// The range of indexes in the image of the bytes of a line.
+/// The range of image indexes of a line's bytes.
 pub(crate) fn places_of(placement: &Placement) -> Range<usize>
     requires { IMAGE_START ≤ placement.now.here }
     ensures start { result.start ≡ placement.now.here - IMAGE_START }
@@ -74,7 +74,7 @@ fn encode_kept(
     }
 }
 
-/// Encodes a line at its place in an image, and returns the fault of its code, if it has one.
+/// Encodes a line at its place in an image, and returns the fault of the code, if it has one.
 /// Writes zeros there if the line isn't accepted or has no code.
 pub(crate) fn write_line(
     meter: &mut Meter,
@@ -127,8 +127,8 @@ pub(crate) fn copy_two(image: &mut [u8], to: usize, from: &[u8], at: usize)
     image[to + 1] = second;
 }
 
-/// Copies the code of a line from its place in one image to its place in another, as far as both
-/// have room for it.
+/// Copies the code of a line from its place in one image to its place in another, up to the smaller
+/// of its two sizes.
 #[inline(never)]
 pub(crate) fn copy_code(was: &Placement, now: &Placement, from: &[u8], image: &mut [u8])
     requires was_low { IMAGE_START ≤ was.now.here }
@@ -150,8 +150,8 @@ pub(crate) fn copy_code(was: &Placement, now: &Placement, from: &[u8], image: &m
     }
 }
 
-/// Moves an accepted line, copies its code to its new place, and returns the address after it. Only
-/// data may have had another size.
+/// Moves an accepted line, copies its code to its new place, and returns the address after the
+/// line. The size can have changed only if the line is data.
 #[inline(always)]
 pub(crate) fn move_line(
     line: &mut Placement,

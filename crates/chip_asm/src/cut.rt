@@ -1,4 +1,4 @@
-//! Cutting bytes into lines.
+//! Splitting bytes into lines.
 ghost use Rattle.std.specs.Prelude.{◌≡◌, ◌+◌, ◌<◌, ◌≤◌, ◌==◌, ◌++◌, ◌∷◌, [], ◌⊎◌, IfOk, IfErr, OnOk, length, None, Some, map};
 ghost use Rattle.std.specs.List.{position_or_len, after_first};
 ghost use Rattle.std.specs.Str.Lines.{strip_carriage_return};
@@ -21,7 +21,7 @@ use memchr::memchr;
 use std::alloc::{AllocError, Global};
 use std::rc::Rc;
 
-/// The number of bytes before the first newline; of all bytes if there is no newline.
+/// The number of bytes before the first newline, or of all bytes if there is no newline.
 fn line_length(bytes: &[u8]) -> usize
     ensures length { result ≡ position_or_len is_newline bytes.now }
     ensures bound { result ≤ length bytes.now }
@@ -89,8 +89,8 @@ fn push_line(
     Ok(())
 }
 
-/// Reads the lines of a source in order. Fails at the first line that is too long or one too many,
-/// or if memory runs out.
+/// Reads the lines of a source in order. Fails at the first line that is too long or exceeds the
+/// greatest number of lines, or if memory runs out.
 pub(crate) fn read_lines(
     alloc: Global,
     meter: &mut Meter,

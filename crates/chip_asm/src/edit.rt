@@ -1,4 +1,4 @@
-//! Edits of the lines of a source, and what they change in lists with an item for each line.
+//! Edits of the lines of a source, and their effect on lists that have an item for each line.
 ghost use Rattle.std.specs.Prelude.{◌≡◌, ◌+◌, ◌<◌, ◌≤◌, slice_set, vec_len, vec_capacity};
 ghost use Rattle.chip_asm.specs.inner.Records.{IsPlaceWithin, count_after, items_after, lines_after, first_changed};
 
@@ -8,13 +8,13 @@ use crate::limits::MOST_LINES;
 /// A change of one line, or the opening of a source. Places count from 0.
 #[derive(Drop)]
 pub(crate) enum LineEdit {
-    /// Puts the line before the line at the place.
+    /// Inserts the line before the line at the place.
     Insert(usize, BoxedLine),
-    /// Puts the line in the place of the line there.
+    /// Replaces the line at the place by this line.
     Replace(usize, BoxedLine),
     /// Removes the line at the place.
     Delete(usize),
-    /// Puts these lines into a source that has none.
+    /// Adds these lines to a source without lines.
     Open(Vec<BoxedLine>),
 }
 
@@ -31,7 +31,7 @@ pub(crate) fn count_after(count: usize, edit: &LineEdit) -> usize
     }
 }
 
-/// The place where the edit begins; the lines before it stay.
+/// The place of the first line that the edit changes; the lines before it stay the same.
 pub(crate) fn first_changed(edit: &LineEdit) -> usize
     ensures { result ≡ first_changed edit.now }
 {
@@ -41,7 +41,7 @@ pub(crate) fn first_changed(edit: &LineEdit) -> usize
     }
 }
 
-/// Makes the edit in a list with one item for each line, which has room for the edit. `new` is the
+/// Makes the edit in a list that has one item for each line and room for the edit. `new` is the
 /// item for each new line.
 pub(crate) fn edit_items<T: Copy>(items: &mut Vec<T>, edit: &LineEdit, new: T)
     requires within { IsPlaceWithin (vec_len items.old) edit.now }
@@ -83,7 +83,7 @@ pub(crate) fn make_edit(lines: &mut Vec<BoxedLine>, edit: LineEdit)
     }
 }
 
-/// Puts a line in the place of another one.
+/// Replaces the line at an index by another one.
 pub(crate) fn replace_line(lines: &mut Vec<BoxedLine>, at: usize, added: BoxedLine)
     requires { at < vec_len lines.old }
     ensures { lines.new.items ≡ slice_set lines.old.items at added }

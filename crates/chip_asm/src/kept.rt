@@ -1,4 +1,4 @@
-//! All that is kept of a source, and the one way in which an edit changes it.
+//! Everything stored about a source, and the function through which every edit changes it.
 ghost use Rattle.std.specs.Prelude.{◌≡◌, List, ◌+◌, ◌<◌, ◌≤◌, [], slice_index_or, slice_set, OnOk, OnErr, IfOk, IfSome, length, vec_len};
 ghost use Rattle.chip_lang.specs.Line.{reading_of};
 ghost use Rattle.chip_asm.specs.Edits.{before_replace};
@@ -28,13 +28,13 @@ use std::alloc::{AllocError, Global};
 use std::mem;
 use std::ops::Range;
 
-/// Names are numbered anew if more names have a number than this many for each line and for each of
-/// `SPARE_LINES` more lines.
+/// Names are renumbered if the table contains more than this many names for each line, counting
+/// `SPARE_LINES` extra lines.
 const NAMES_A_LINE: usize = 4;
 
 const SPARE_LINES: usize = 16;
 
-/// Gives each line what is kept of it under another numbering of the names.
+/// Replaces the facts about each line by those under another numbering of the names.
 fn set_infos(lines: &mut [BoxedLine], infos: &mut [Numbered])
     requires { length infos.old ≡ length lines.old }
     ensures texts { texts_in lines.new ≡ texts_in lines.old }
@@ -53,18 +53,18 @@ pub(crate) struct Kept {
     pub(crate) lines: Vec<BoxedLine>,
     pub(crate) names: Table,
     pub(crate) layout: Layout,
-    /// The byte at each address from `IMAGE_START` on, even if a line has a fault. Empty until
-    /// there is a line.
+    /// The byte at each address from `IMAGE_START` on, even if a line has a fault. Empty until the
+    /// source has a line.
     pub(crate) image: Vec<u8>,
-    /// Room for the image after an edit. `blocks` is room for the open blocks of a pass.
+    /// Space for the image after an edit. `blocks` is space for the open blocks of a pass.
     spare_image: Vec<u8>,
     blocks: Vec<Block>,
-    /// The number of lines at the front that are known to be steady.
+    /// The number of leading lines that are known to be steady.
     settled: usize,
 }
 
 impl Kept {
-    /// A source without lines, with a table without symbols.
+    /// A source without lines. The table contains no symbols.
     pub(crate) fn new(alloc: Global, names: Table) -> Self
         requires { names.symbols ≡ [] }
         ensures names { result.names ≡ names }
@@ -82,9 +82,9 @@ impl Kept {
         }
     }
 
-    /// Makes an edit, and then numbers the names anew if many of them are in no line. Returns the
-    /// range of indexes that it wrote in the image, if that is known. Fails only if memory runs
-    /// out, and then changes no line.
+    /// Makes an edit, and then renumbers the names if the table contains too many. Returns the
+    /// range of image indexes that it wrote, if that range is known. Fails only if memory runs out,
+    /// and then changes no line.
     pub(crate) fn edit(
         &mut self,
         alloc: Global,
@@ -120,8 +120,8 @@ impl Kept {
         Ok(written)
     }
 
-    /// Numbers the names anew if most names with a number are in no line any more. If memory runs
-    /// out, the numbers stay.
+    /// Renumbers the names if the table contains more names than `NAMES_A_LINE` allows. If memory
+    /// runs out, the numbers stay the same.
     fn renumber(&mut self, alloc: Global)
         requires { IsKept self.old }
         ensures kept { IsKept self.new }
@@ -137,8 +137,8 @@ impl Kept {
         }
     }
 
-    /// A table of the names that are in lines, and what is kept of these lines under it. Fails only
-    /// if memory runs out.
+    /// A table of only the names that occur in lines, and the facts about these lines under that
+    /// table. Fails only if memory runs out.
     fn numbered_anew(&self, alloc: Global) -> Result<(Table, Vec<Numbered>), AllocError>
         ensures symbols { IfOk result (λ made. made.0.symbols ≡ self.now.names.symbols) }
         ensures infos { IfOk result (λ made. AreInfosOf made.0.keys made.1.items
@@ -153,8 +153,8 @@ impl Kept {
         Ok((names, infos))
     }
 
-    /// Replaces a line by one that is alike, so that only its bytes change, and whether it has a
-    /// fault. Returns the range of indexes of its bytes in the image, if there was an image.
+    /// Replaces a line by one that is alike, so that only the line's bytes and its fault can
+    /// change. Returns the range of image indexes of the line's bytes, if there was an image.
     fn rewrite(&mut self, meter: &mut Meter, at: usize, added: BoxedLine) -> Option<Range<usize>>
         requires kept { IsKept self.old }
         requires inside { at < vec_len self.old.lines }
@@ -190,7 +190,7 @@ impl Kept {
         }
     }
 
-    /// Takes room for an edit after which there are `count` lines. Fails only if memory runs out.
+    /// Reserves room for an edit that leaves `count` lines. Fails only if memory runs out.
     fn reserve(&mut self, count: usize) -> Result<(), AllocError>
         requires { IsKept self.old }
         ensures kept { IsKept self.new }
@@ -205,7 +205,7 @@ impl Kept {
         self.blocks.reserve(count)
     }
 
-    /// Makes an edit by both passes. Each allocation comes before the first change, so a failed
+    /// Makes an edit with both passes. Each allocation comes before the first change, so a failed
     /// edit changes no line.
     pub(crate) fn remake(
         &mut self,
@@ -233,7 +233,7 @@ impl Kept {
         Ok(())
     }
 
-    /// Makes an edit in the lines and in what is kept of each line. There is room for it.
+    /// Makes an edit in the lines and in the placements. The caller has reserved room for it.
     fn exchange(&mut self, edit: LineEdit)
         requires within { IsPlaceWithin (vec_len self.old.lines) edit }
         requires placed_many { vec_len self.old.layout.placements ≡ vec_len self.old.lines }
@@ -256,9 +256,9 @@ impl Kept {
         make_edit(&mut self.lines, edit);
     }
 
-    /// Makes the first pass from the line `first` on, which has the address `here`; the lines
-    /// before it stay. The image then has the bytes from before the edit, as far as lines keep
-    /// their codes.
+    /// Runs the first pass from line `first` on, whose address is `here`; the lines before that
+    /// line stay the same. The image then contains the bytes from before the edit for the lines
+    /// that keep their codes.
     fn first_pass(&mut self, alloc: Global, first: usize, here: usize) -> (Pass, Tally)
         requires { (e : Change) × IsExchanged e self.old first here }
         ensures lines { self.new.lines ≡ self.old.lines }
@@ -286,8 +286,8 @@ impl Kept {
         (pass, tally)
     }
 
-    /// Makes layout and codes by both passes from the line `first` on, which has the address
-    /// `here`; the lines before it stay.
+    /// Updates the layout and the codes with both passes from line `first` on, whose address is
+    /// `here`; the lines before that line stay the same.
     fn assemble(&mut self, alloc: Global, meter: &mut Meter, first: usize, here: usize)
         requires { (e : Change) × IsExchanged e self.old first here }
         ensures lines { self.new.lines ≡ self.old.lines }

@@ -1,4 +1,4 @@
-//! All that is kept of a line.
+//! Everything stored about a line.
 ghost use Rattle.std.specs.Prelude.{◌≡◌, ◌+◌, ◌≤◌, List, Ok, IfOk, length};
 ghost use Rattle.chip_lang.specs.Line.{reading_of};
 ghost use Rattle.chip_lang.specs.SeenLine.{seen_line};
@@ -25,7 +25,7 @@ pub(crate) struct ReadLine {
     pub(crate) text: LineText,
     pub(crate) line: Line,
     /// The numbers of the names that the line uses, if it uses several, or of the name that its
-    /// IFDEF or IFUND asks for.
+    /// IFDEF or IFUND tests.
     pub(crate) several: Vec<NameId>,
 }
 
@@ -33,15 +33,15 @@ pub(crate) struct ReadLine {
 #[derive(Drop)]
 pub(crate) enum HeldLine {
     /// A line that is blank or only a comment: the number of its bytes, and the index where they
-    /// begin in the bytes that were read together.
+    /// begin in the shared source.
     Nothing(u16, u32, Rc<SharedSource>),
     /// Any line.
     Boxed(Box<ReadLine>),
 }
 
-/// A line of the source. The line is stored behind a pointer, so an edit, which moves lines, moves
-/// little. Many lines are blank or only a comment: if they were read with others, they take no room
-/// of their own.
+/// A line of the source. The line is stored behind a pointer, so an edit that moves lines moves few
+/// bytes. Many lines are blank or only a comment. Such a line takes no space of its own if it was
+/// read together with other lines.
 #[derive(Drop)]
 pub(crate) struct BoxedLine {
     held: HeldLine,
@@ -64,8 +64,8 @@ impl Model for BoxedLine {
 }
 
 impl BoxedLine {
-    /// A line with this text and this reading, whose names get numbers. Fails only if memory runs
-    /// out.
+    /// A line with this text and this reading, whose names are given numbers. Fails only if memory
+    /// runs out.
     #[inline(always)]
     fn new(alloc: Global, table: &mut Table, text: LineText, line: Line) -> Result<Self, AllocError>
         ensures text { IfOk result (λ kept. kept.text ≡ text) }
@@ -116,7 +116,7 @@ impl BoxedLine {
     }
 
     /// The numbers of the names that the line uses, or else of the name that its IFDEF or IFUND
-    /// asks for.
+    /// tests.
     #[inline]
     pub(crate) fn numbers(&self) -> &[NameId]
         ensures { self.now.info.uses ≡ Several → result.now ≡ numbers_in self.now }
@@ -145,7 +145,7 @@ impl BoxedLine {
     }
 }
 
-/// Reads a text and keeps a copy of it. The names in it get numbers. Fails only if memory runs out.
+/// Reads a text, stores a copy of it, and numbers its names. Fails only if memory runs out.
 pub(crate) fn read_kept(
     alloc: Global,
     meter: &mut Meter,
@@ -165,8 +165,8 @@ pub(crate) fn read_kept(
     BoxedLine::new(alloc, table, text, line)
 }
 
-/// Reads a text that begins at index `start` of a shared source. The names in it get numbers. Fails
-/// only if memory runs out.
+/// Reads a text that begins at index `start` of a shared source, and numbers its names. Fails only
+/// if memory runs out.
 #[inline]
 pub(crate) fn read_part(
     alloc: Global,

@@ -8,7 +8,7 @@ ghost use Rattle.chip_asm.specs.computed.Walk.{placed};
 ghost use Rattle.chip_asm.specs.Places.{ArePlaced, IsFaultOf, IsImage, IsUnclosed, names_given};
 ghost use Rattle.chip_asm.specs.Program.{symbols_of, fault_at, image_of, covers, is_unclosed};
 
-/// No name occurs twice among the names that a source gives.
+/// No name occurs twice among the names that a source defines.
 pub fn names_differ()
     ensures { (texts : List (List ℕ))
         → IsDistinct bytes_eq (map (λ symbol. symbol.0) (symbols_of texts)) }
@@ -20,8 +20,8 @@ pub fn one_line_covers()
         → length (filter (covers address) (placed (map reading_of texts))) ≤ 1 }
 {}
 
-/// The facts that `placed` finds about lines, line by line, satisfy the relation `ArePlaced`, which
-/// states them by place.
+/// The facts about lines that `placed` computes line by line satisfy the relation `ArePlaced`,
+/// which states them by place.
 pub fn lines_are_placed()
     ensures { (lines : List Reading) → ArePlaced lines (reverse (placed lines)) }
 {}
@@ -39,7 +39,7 @@ pub fn unclosed_by_place()
         → Decides (is_unclosed (placed lines) p) (IsUnclosed (reverse (placed lines)) i p) }
 {}
 
-/// The names that a source gives are those that its lines give, by place.
+/// The names that a source defines are the names that its lines define, stated by place.
 pub fn names_by_place()
     ensures { (texts : List (List ℕ)) (all : List Placed) → ArePlaced (map reading_of texts) all
         → symbols_of texts ≡ names_given all }

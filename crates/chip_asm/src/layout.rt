@@ -36,7 +36,7 @@ impl Layout {
         }
     }
 
-    /// The address of the line at a place; past the last line, the address after it.
+    /// The address of the line at a place; past the last line, the address after the last line.
     pub(crate) fn address_at(&self, place: usize) -> usize
         ensures { (lines : List Reading) → IsLayoutOf self.now lines → place ≤ length lines
             → result ≡ address (placed (take place lines)) }
@@ -58,7 +58,7 @@ pub(crate) struct Tally {
 }
 
 impl Tally {
-    /// The tally of lines of which `faults` have a fault and none waits.
+    /// The tally of lines if `faults` of them have a fault and none waits for its code.
     pub(crate) fn new(faults: usize) -> Tally
         ensures faults { result.faults ≡ faults }
         ensures end { result.end ≡ 0 }
@@ -87,7 +87,7 @@ impl Tally {
         self.faults = others + new.count();
     }
 
-    /// Sets the fault of the code of an accepted line, or that it has none.
+    /// Records the fault of an accepted line's code, or that the code has no fault.
     #[inline(always)]
     pub(crate) fn put_code(&mut self, placements: &mut [Placement], at: usize, fault: Option<Fault>)
         requires there { at < length placements.old }
@@ -120,7 +120,7 @@ impl Tally {
     }
 }
 
-/// Marks each active IF that lacks an ENDIF, unless an active END came. Lines count from 1,
+/// Marks each active IF that lacks an ENDIF, unless an active END was reached. Lines count from 1,
 /// placements from 0.
 pub(crate) fn mark_unclosed(
     placements: &mut [Placement],

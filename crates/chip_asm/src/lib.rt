@@ -1,5 +1,5 @@
-//! Whole sources of the Chipper assembler: layout, names, faults and image, kept up to date under
-//! edits.
+//! Whole sources of the Chipper assembler: layout, names, faults and image, updated after each
+//! edit.
 #![tactic(auto)]
 
 mod assemble;

@@ -1,4 +1,4 @@
-//! Facts that are kept of a line beside its reading, for steps over all lines.
+//! Facts stored about a line in addition to its reading, for steps over all lines.
 ghost use Rattle.std.specs.Prelude.{◌≡◌, ◌+◌, ◌++◌, ◌-◌, ◌<◌, ◌≤◌, ◌^◌, ◌%◌, ◌&&◌, if◌then◌else◌, nat_eq, List, IfOk, IfSome, OnOk, true, false};
 ghost use Rattle.chip_lang.specs.Line.{Reading};
 ghost use Rattle.chip_lang.specs.SeenLine.{seen_body, seen_line};
@@ -28,11 +28,11 @@ pub(crate) enum Uses {
 /// The space that a line takes.
 #[derive(Clone, Copy)]
 pub(crate) enum Space {
-    /// Two bytes, if the line has any of its own.
+    /// Two bytes if the line has its own bytes, or else none.
     Short,
-    /// Data of so many bytes, and whether one more byte is added if it would end at an odd address.
+    /// Data of this many bytes, and whether one more byte is added if the data would end at an odd address.
     Data(u16, bool),
-    /// The first pass has to know more than the line's size and its name.
+    /// The first pass needs more than the line's size and its name.
     Asked,
 }
 
@@ -41,17 +41,17 @@ pub(crate) enum Space {
 pub(crate) struct LineInfo {
     /// The space that the line takes.
     pub(crate) space: Space,
-    /// Whether the line has bytes of its own.
+    /// Whether the line has its own bytes.
     pub(crate) is_coded: bool,
     /// Whether the line opens no block, ends no source and switches no alignment.
     pub(crate) is_steady: bool,
-    /// The name that the line gives, if it is accepted.
+    /// The name that the line defines, if the line is accepted.
     pub(crate) defines: Option<NameId>,
     /// The names that the line uses.
     pub(crate) uses: Uses,
 }
 
-/// The number of bytes of a statement itself, without padding.
+/// The number of a statement's own bytes, without padding.
 pub(crate) fn size_of_body(body: &Body, value: i32) -> usize
     ensures size { result ≡ own_size (seen_body body.now) value }
     ensures bound { result < 2 ^ 64 - 1 }
@@ -90,7 +90,7 @@ fn space_of(line: &Line) -> Space
     }
 }
 
-/// Whether the line has bytes of its own.
+/// Whether the line has its own bytes.
 fn has_code(line: &Line) -> bool
     ensures { result ≡ has_code (body_of (seen_line line.now)) }
 {
@@ -116,7 +116,7 @@ fn is_steady(line: &Line) -> bool
     )
 }
 
-/// The number of the name that a line gives, if it gives one. Fails only if memory runs out.
+/// The number of the name that a line defines, if it defines one. Fails only if memory runs out.
 fn number_defined(
     alloc: Global,
     table: &mut Table,
@@ -157,8 +157,8 @@ fn push_numbers(
     Ok(())
 }
 
-/// The names that a line uses, and the numbers of several names, or of the name that its IFDEF or
-/// IFUND asks for. Fails only if memory runs out.
+/// The names that a line uses, and the numbers of the names if there are several, or of the name
+/// that its IFDEF or IFUND tests. Fails only if memory runs out.
 fn uses_of(alloc: Global, table: &mut Table, line: &Line) -> Result<(Uses, Vec<NameId>), AllocError>
     ensures keys { Extends table.old.keys table.new.keys }
     ensures symbols { table.new.symbols ≡ table.old.symbols }
@@ -187,8 +187,8 @@ fn uses_of(alloc: Global, table: &mut Table, line: &Line) -> Result<(Uses, Vec<N
     Ok((Uses::Several, numbers))
 }
 
-/// The size of a statement at an address: one more byte if `is_padded` and the statement would end
-/// at an odd address.
+/// The size of a statement at an address, with one more byte if `is_padded` is true and the
+/// statement would end at an odd address.
 pub(crate) fn padded_size(size: usize, is_padded: bool, here: usize) -> usize
     requires here { here ≤ MEMORY_BYTES }
     requires size { size < 2 ^ 64 - 1 }
@@ -206,7 +206,7 @@ pub(crate) fn padded_size(size: usize, is_padded: bool, here: usize) -> usize
 pub(crate) struct Numbered {
     pub(crate) info: LineInfo,
     /// The numbers of the names that the line uses, if it uses several, or of the name that its
-    /// IFDEF or IFUND asks for.
+    /// IFDEF or IFUND tests.
     pub(crate) several: Vec<NameId>,
 }
 
@@ -220,7 +220,7 @@ impl LineInfo {
         uses: Uses::Nothing,
     };
 
-    /// The facts about a line, whose names get numbers. Fails only if memory runs out.
+    /// The facts about a line, whose names are given numbers. Fails only if memory runs out.
     pub(crate) fn of(alloc: Global, table: &mut Table, line: &Line) -> Result<Numbered, AllocError>
         ensures keys { Extends table.old.keys table.new.keys }
         ensures symbols { table.new.symbols ≡ table.old.symbols }
@@ -240,10 +240,10 @@ impl LineInfo {
         Ok(Numbered { info, several })
     }
 
-    /// The size that a line takes at an address, active or not, and the name that it then gives.
-    /// None if the first pass has to know more about the line, or if there is no room for it. For
-    /// an active line the result is also none unless the line is short, if `short`, or data, if
-    /// not.
+    /// The size of a line at an address, active or not, and the name that the line then defines.
+    /// None if the first pass needs more facts about the line, or if there is no room for it. If
+    /// the line is active, also none if `short` is true and the line isn't short, or if `short` is
+    /// false and the line isn't data.
     #[inline(always)]
     pub(crate) fn plain(
         self,
@@ -280,8 +280,8 @@ impl LineInfo {
         }
     }
 
-    /// Whether two lines give the same name and take the same space, and the first pass has to know
-    /// nothing else about them. Replacing one by the other then changes nothing else.
+    /// Whether two lines define the same name and take the same space, and the first pass needs nothing else about
+    /// them. Replacing one by the other then changes only the line's bytes and its fault.
     pub(crate) fn is_alike(self, other: LineInfo) -> bool
         ensures { (keys : List Name) (few several : List NameId) (old new : Reading)
             → IsInfo keys self few old → IsInfo keys other several new → result ≡ true

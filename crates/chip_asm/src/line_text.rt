@@ -1,4 +1,4 @@
-//! The text of a line: bytes of its own, or a part of the bytes that were read together.
+//! The text of a line: its own bytes, or a part of bytes that several lines share.
 ghost use Rattle.std.specs.Prelude.{◌≡◌, ◌+◌, ◌≤◌, IfOk, length};
 ghost use Rattle.chip_asm.specs.inner.HeldText.{SaysNothing, part_from};
 
@@ -7,8 +7,8 @@ use std::alloc::{AllocError, Global};
 use std::marker::Model;
 use std::rc::Rc;
 
-/// The data shared by lines that were read together: the bytes with their texts, and a line that
-/// says nothing.
+/// The data shared by lines that were read together: the bytes that contain their texts, and the
+/// reading of a blank line.
 #[derive(Drop)]
 pub(crate) struct SharedSource {
     pub(crate) bytes: Bytes,
@@ -31,7 +31,7 @@ impl SharedSource {
         Ok(Rc::new(alloc, source)?)
     }
 
-    /// The part of the bytes with `count` bytes from index `start` on.
+    /// The `count` bytes from index `start` on.
     pub(crate) fn part(&self, start: u32, count: u16) -> &[u8]
         requires { start + count ≤ length self.now.bytes }
         ensures { result.now ≡ part_from self.now.bytes start count }
@@ -44,9 +44,9 @@ impl SharedSource {
 /// The way in which a text is stored.
 #[derive(Drop)]
 pub(crate) enum HeldText {
-    /// Bytes of its own.
+    /// Bytes that no other line shares.
     Own(Bytes),
-    /// A part of the bytes that were read together: the index where it begins, and its number of
+    /// A part of the bytes of a shared source: the index where the part begins, and its number of
     /// bytes.
     Part(Rc<SharedSource>, u32, u16),
 }
@@ -79,7 +79,7 @@ impl LineText {
         })
     }
 
-    /// The part with `count` bytes, from index `start` on, of bytes that were read together.
+    /// The text that consists of `count` bytes from index `start` on in a shared source.
     pub(crate) fn part(source: Rc<SharedSource>, start: u32, count: u16) -> LineText
         requires { start + count ≤ length source.value.bytes }
         ensures { result ≡ part_from source.value.bytes start count }

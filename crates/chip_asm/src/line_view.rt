@@ -16,7 +16,7 @@ use chip_lang::{Body, Bytes, Fault, Line, Span, Token, fault_span, mnemonic_of, 
 use std::alloc::{AllocError, Global};
 use std::marker::Model;
 
-/// A line of a source and the facts about it there, borrowed from the source.
+/// A line of a source and the facts about it, borrowed from the source.
 #[derive(Drop)]
 pub struct LineView<'a> {
     pub(crate) number: usize,
@@ -38,8 +38,7 @@ impl<'a> Model for LineView<'a> {
 }
 
 impl<'a> LineView<'a> {
-    /// The view of the kept line with this number and placement, which takes these bytes of the
-    /// image.
+    /// The view of the stored line with this number and placement, given its bytes in the image.
     pub(crate) fn of(
         number: usize,
         kept: &'a BoxedLine,
@@ -82,7 +81,7 @@ impl<'a> LineView<'a> {
         self.reading
     }
 
-    /// The tokens of the text in rising order, each with its place. A text has exactly one such
+    /// The tokens of the text from left to right, each with its place. A text has exactly one such
     /// list. Fails only if memory runs out.
     pub fn tokens(&self, alloc: Global) -> Result<Vec<Token>, AllocError>
         ensures list { IfOk result (λ tokens. tokens.items ≡ tokens_of self.now.text) }
@@ -99,8 +98,8 @@ impl<'a> LineView<'a> {
         mnemonic_of(alloc, self.text)
     }
 
-    /// The part of the text at which a fault of it lies, as the table `place_of_fault` says. Fails
-    /// only if memory runs out.
+    /// The part of the text at which one of its faults lies, as the table `place_of_fault` states.
+    /// Fails only if memory runs out.
     pub fn span_of(&self, alloc: Global, fault: Fault) -> Result<Span, AllocError>
         ensures span { IfOk result (λ span. span ≡ span_of_fault fault self.now.text) }
         ensures rises { IfOk result (λ span. span.start ≤ span.end) }
@@ -109,14 +108,14 @@ impl<'a> LineView<'a> {
         fault_span(alloc, self.text, fault)
     }
 
-    /// Whether the line is active: no IF block leaves it out, and no END comes before it.
+    /// Whether the line is active: no IF block excludes it, and no END comes before it.
     pub fn is_active(&self) -> bool
         ensures { result ≡ self.now.active }
     {
         self.placement.is_active()
     }
 
-    /// The address of the line, or the one that it would have if it were active.
+    /// The address of the line, or the address that it would have if it were active.
     pub fn address(&self) -> usize
         ensures value { result ≡ self.now.address }
         ensures bound { result ≤ MEMORY_BYTES }
@@ -139,8 +138,8 @@ impl<'a> LineView<'a> {
         self.placement.status.fault()
     }
 
-    /// The bytes that the line takes in the image: its own bytes, and zeros up to its size. An
-    /// inactive line and a line with a fault of the first pass take none.
+    /// The bytes of the line in the image: its own bytes, and zeros up to its size. An inactive
+    /// line and a line with a fault of the first pass have no bytes.
     pub fn bytes(&self) -> &'a [u8]
         ensures { result.now ≡ self.now.bytes }
     {
@@ -154,8 +153,8 @@ impl<'a> LineView<'a> {
         self.bytes.len()
     }
 
-    /// The value that an active line without a fault gives a name by EQU or DEFINE; none for any
-    /// other line.
+    /// The value that an active line without a fault assigns to a name by EQU or DEFINE; none for
+    /// any other line.
     pub fn definition(&self) -> Option<i32>
         ensures { result ≡ definition_of self.now }
     {

@@ -11,7 +11,7 @@ use chip_lang::{Fault, byte_digits, word_digits};
 use itoa::Buffer;
 use std::alloc::AllocError;
 
-// As many spaces as the field of a row is wide.
+// Spaces that fill the field of a row.
 const SPACES: [u8; 12] = [b' '; 12];
 
 /// The digit of a number below 10.
@@ -63,8 +63,8 @@ fn push_left(out: &mut Vec<u8>, sign: u8, digits: &[u8], more: u8) -> Result<(),
     Ok(())
 }
 
-/// Appends the first `count` bytes, with zeros past the last one, left-aligned in the field, then
-/// the sign `more` and a space. Most lines have no bytes, or the two of an instruction.
+/// Appends the first `count` bytes, with zeros past the last byte, left-aligned in the field, then
+/// the sign `more` and a space. Most lines have no bytes, or the two bytes of an instruction.
 fn push_bytes(out: &mut Vec<u8>, count: usize, bytes: &[u8], more: u8) -> Result<(), AllocError>
     requires { count ≤ 6 }
     ensures { OnOk result (out.new.items
@@ -93,8 +93,8 @@ fn push_bytes(out: &mut Vec<u8>, count: usize, bytes: &[u8], more: u8) -> Result
     Ok(())
 }
 
-/// Appends the field of a line, the sign after it, and a space. The text of a value, if there is
-/// one, replaces the bytes of a line without a fault.
+/// Appends the field of a line, the sign after the field, and a space. The text of a value, if
+/// there is one, replaces the bytes of a line without a fault.
 fn push_field(
     out: &mut Vec<u8>,
     fault: Option<Fault>,
@@ -150,11 +150,11 @@ impl<'a> LineView<'a> {
     }
 }
 
-// The number of bytes of a row of the listing beside the line's text, if the line's number has at
+// The number of bytes in a row of the listing besides the line's text, if the line's number has at
 // most four digits.
 const BESIDE_TEXT: usize = 25;
 
-/// The least number of bytes of the listing of these lines.
+/// The smallest possible number of bytes in the listing of these lines.
 pub(crate) fn listing_bytes(lines: &[BoxedLine]) -> usize {
     let mut bytes = lines.len().saturating_mul(BESIDE_TEXT);
     for kept in lines {

@@ -30,14 +30,14 @@ pub(crate) struct Pass {
     pub(crate) here: usize,
     pub(crate) aligning: bool,
     pub(crate) ended: bool,
-    /// Whether a line other than ELSE or ENDIF is active here.
+    /// Whether the next line is active, if it is neither ELSE nor ENDIF.
     pub(crate) active: bool,
     pub(crate) blocks: Vec<Block>,
     pub(crate) names: Table,
     ghost within: { here ≤ MEMORY_BYTES },
 }
 
-/// The statement of a line; for an unreadable line, the empty statement, which the caller hands in.
+/// The statement of a line; for an unreadable line, the empty statement, which the caller passes.
 fn body_or<'a>(line: &'a Line, empty: &'a Body) -> &'a Body
     requires { seen_body empty.now ≡ empty_body }
     ensures { seen_body result.now ≡ body_of (seen_line line.now) }
@@ -56,8 +56,8 @@ impl Pass {
     ghost use Rattle.chip_asm.specs.inner.Placements.{found, is_accepted, Follows, placement_of, next_address, next_aligning};
     ghost use Rattle.chip_asm.specs.inner.Passes.{Change, HasRoom, IsUnderWay};
 
-    /// The pass at an address, after lines that give these names, where no block is open. The list
-    /// of blocks is emptied, and its room is used again.
+    /// The pass at an address, after lines that define these names and leave no block open. The
+    /// list of blocks is emptied, and its room is reused.
     pub(crate) fn resume(here: usize, names: Table, blocks: Vec<Block>) -> Self
         ensures follows { (before : List Placed) → here ≡ address before → here ≤ MEMORY_BYTES
             → is_aligning before ≡ true → has_ended before ≡ false → enclosing before ≡ []
@@ -110,7 +110,7 @@ impl Pass {
     }
 
     /// The value of the expression of an EQU, ORG or DS line under the names so far, or the fault
-    /// of that expression; 0 for any other line. The caller may know the value.
+    /// of that expression; 0 for any other line. `known` is the value if the caller knows it.
     #[tactic(auto, unfolding(crate::specs::Layout::value_at))]
     fn value_at(&self, known: Option<i32>, body: &Body, numbers: &[NameId]) -> Result<i32, Fault>
         requires { IfSome known (λ value. value_at self.now.names.symbols (seen_body body.now) ≡ Ok value) }
@@ -222,7 +222,7 @@ impl Pass {
         }
     }
 
-    /// The placement of the next line. The caller may know the value of its expression.
+    /// The placement of the next line. `known` is the value of its expression if the caller knows it.
     fn place(
         &self,
         known: Option<i32>,
@@ -263,9 +263,9 @@ impl Pass {
         }
     }
 
-    /// Makes the pass over the line at a place and returns its placement; an accepted line is still
-    /// to be encoded. The caller may know the value of its expression, which is otherwise found
-    /// fastest if `numbers` has the numbers of the names that the line uses or asks for.
+    /// Runs the pass over the line at a place and returns its placement; an accepted line still has to be encoded.
+    /// `known` is the value of the line's expression if the caller knows it. Otherwise the pass is fastest if `numbers`
+    /// contains the numbers of the names that the line uses or tests.
     #[inline(never)]
     pub(crate) fn step(
         &mut self,
@@ -308,7 +308,7 @@ impl Pass {
         placement
     }
 
-    /// Notes whether a line other than ELSE or ENDIF would be active here.
+    /// Records whether the next line is active, if it is neither ELSE nor ENDIF.
     fn note_active(&mut self)
         ensures active { (nearest : List Block) → self.new.blocks.items ≡ reverse nearest
             → (self.new.ended ≡ false → AreNested nearest)
@@ -319,9 +319,9 @@ impl Pass {
     }
 
     /// Places lines from `first` on until one needs more than its size and its name (EQU, ORG, DS,
-    /// IF ..), has a fault or has no room, and returns the place after the last one. A line that
-    /// was accepted and still is gets its code copied from the image before the edit. A line that
-    /// is accepted now but wasn't before waits for its code.
+    /// IF ..), has a fault or has no room, and returns the place after the last line placed. If a
+    /// line was accepted and still is, its code is copied from the image before the edit. If a line
+    /// is accepted now but wasn't before, it waits for its code.
     #[inline(never)]
     pub(crate) fn run(
         &mut self,
@@ -353,8 +353,8 @@ impl Pass {
         }
     }
 
-    /// Places lines as `run` does, but only inactive lines, only short lines or only data; each of
-    /// the three has a loop of its own.
+    /// Places lines as `run` does, but only inactive lines, only short lines or only data. Each of
+    /// these three kinds has its own loop.
     #[inline(always)]
     fn run_as(
         &mut self,
@@ -423,7 +423,7 @@ impl Pass {
         }
     }
 
-    /// Adds the symbol of the name that a line gives, if the line is accepted.
+    /// Adds the symbol of the name that a line defines, if the line is accepted.
     fn define(
         &mut self,
         accepted: bool,
@@ -465,7 +465,7 @@ impl Pass {
         );
     }
 
-    /// Moves past a line of this size.
+    /// Advances past a line of this size.
     #[tactic(auto, unfolding(crate::specs::computed::Walk::fault_of_value))]
     fn advance(&mut self, body: &Body, active: bool, accepted: bool, value: i32, size: usize)
         requires fits { accepted ≡ true

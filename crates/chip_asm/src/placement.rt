@@ -21,7 +21,7 @@ pub(crate) enum Status {
 impl Status {
     ghost use Rattle.chip_asm.specs.inner.Placements.{bare_status, fault_noted, first_status, is_accepted, is_pending, status_coded};
 
-    /// The status after the first pass of a line that is active or not and has this fault or none.
+    /// The status after the first pass, given whether the line is active and which fault it has, if any.
     pub(crate) fn first(active: bool, fault: Option<Fault>) -> Status
         ensures { result ≡ first_status active fault }
     {
@@ -33,7 +33,7 @@ impl Status {
     }
 
     /// The status of a line that wasn't accepted before and has no fault in the first pass.
-    /// `is_coded` says whether it has code.
+    /// `is_coded` is true if the line has code.
     pub(crate) fn bare(active: bool, is_coded: bool) -> Status
         ensures { result ≡ bare_status active is_coded }
     {
@@ -44,7 +44,7 @@ impl Status {
         }
     }
 
-    /// The status of an accepted line whose code has this fault, or none.
+    /// The status of an accepted line, given the fault of its code, if any.
     pub(crate) fn coded(fault: Option<Fault>) -> Status
         ensures { result ≡ status_coded fault }
     {
@@ -78,7 +78,7 @@ impl Status {
     }
 }
 
-/// The results of the passes for a line. Each line has one, so the type is small: 12 bytes.
+/// The results of the passes for a line. The type is small (12 bytes), because each line has one.
 #[derive(Clone, Copy)]
 pub(crate) struct Placement {
     pub(crate) value: i32,
@@ -90,7 +90,7 @@ pub(crate) struct Placement {
 impl Placement {
     ghost use Rattle.chip_asm.specs.inner.Placements.{count_of, is_active_status};
 
-    /// The placement of a line of which nothing is known yet.
+    /// The placement of a line about which nothing is known yet.
     pub(crate) const NOTHING: Placement = Placement {
         value: 0,
         here: 0,

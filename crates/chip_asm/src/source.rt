@@ -1,4 +1,4 @@
-//! A source under edits, with its layout, codes and image.
+//! A source that can be edited, with its layout, codes and image.
 ghost use Rattle.std.specs.Prelude.{◌≡◌, ◌+◌, ◌-◌, ◌<◌, ◌≤◌, ◌⊎◌, OnOk, OnErr, IfOk, IfErr, IsSome, IfSome, [], length, insert, remove, slice_set, Option, Some, None, map, option_map, slice_get};
 ghost use Rattle.std.specs.Option.{option_copied};
 ghost use Rattle.chip_lang.specs.Line.{upper};
@@ -25,7 +25,7 @@ use std::alloc::{AllocError, Global};
 use std::marker::Model;
 use std::ops::Range;
 
-/// The lines of a source, and everything known about them, kept up to date under edits.
+/// The lines of a source, and everything known about them, updated after each edit.
 pub struct Source {
     kept: Kept,
     meter: Meter,
@@ -97,9 +97,9 @@ impl Source {
         Source::open_hashed(alloc, NameHasher::new(0), source)
     }
 
-    /// Opens a source from its bytes and hashes names with this hasher. A line ends at a newline,
-    /// and a carriage return directly before that newline is dropped. Fails at the first line that
-    /// has more than `LINE_BYTES` bytes or is one more than `MOST_LINES`, or if memory runs out.
+    /// Opens a source from its bytes and hashes names with this hasher. A line ends at a newline, and a carriage return
+    /// directly before that newline is dropped. Fails at the first line that has more than `LINE_BYTES` bytes or
+    /// exceeds the limit of `MOST_LINES` lines, or if memory runs out.
     pub fn open_hashed(
         alloc: Global,
         hasher: NameHasher,
@@ -128,7 +128,7 @@ impl Source {
         self.kept.lines.len()
     }
 
-    /// The counts of lines read and encoded so far, by opening and by edits.
+    /// The counts of lines read and encoded so far, both by opening the source and by edits.
     pub fn work(&self) -> Meter
         ensures { result ≡ self.now.work }
     {
@@ -148,8 +148,8 @@ impl Source {
         }
     }
 
-    /// The value of a name, which may be in either case, and the number of the line that gives it;
-    /// none if no line gives it.
+    /// The value of a name, which may be in either case, and the number of the line that defines
+    /// it; none if no line defines it.
     pub fn symbol(&self, name: &[u8]) -> Option<Symbol>
         ensures { result ≡ lookup_name (symbols_of self.now.lines) (map upper name.now) }
     {
@@ -187,7 +187,7 @@ impl Source {
         }
     }
 
-    /// The names that the source gives, in line order, each with its value and the number of its
+    /// The names that the source defines, in line order, each with its value and the number of its
     /// line. Fails only if memory runs out.
     pub fn symbols(&self, alloc: Global) -> Result<Vec<(Bytes, Symbol)>, AllocError>
         ensures { IfOk result (λ symbols. symbols.items ≡ symbols_of self.now.lines) }
@@ -195,15 +195,15 @@ impl Source {
         self.kept.names.symbols(alloc)
     }
 
-    /// The number of names that the source gives.
+    /// The number of names that the source defines.
     pub fn symbol_count(&self) -> usize
         ensures { result ≡ length (symbols_of self.now.lines) }
     {
         self.kept.names.symbol_count()
     }
 
-    /// The name at an index, counted from 0, among the names that the source gives, in line order,
-    /// with its value and the number of its line. None past the last name.
+    /// The name at an index, counted from 0, among the names that the source defines, in line
+    /// order, with its value and the number of its line. None past the last name.
     pub fn symbol_at(&self, place: usize) -> Option<(&[u8], Symbol)>
         ensures { option_map (λ found. (found.0.now, found.1)) result
             ≡ slice_get (symbols_of self.now.lines) place }
@@ -225,7 +225,7 @@ impl Source {
         Ok(faults)
     }
 
-    /// The listing: a row for each line, with its number, its address, its bytes or value or fault,
+    /// The listing: a row for each line, with its number, its address, its bytes, value or fault,
     /// and its text. Fails only if memory runs out.
     pub fn listing(&self, alloc: Global) -> Result<Vec<u8>, AllocError>
         ensures { IfOk result (λ listing. listing.items ≡ listing_of self.now.lines) }
@@ -240,7 +240,7 @@ impl Source {
     }
 
     /// Inserts a line before line `number`, counted from 1, or after the last line. A refused edit
-    /// changes no line; it changes the work only if memory ran out.
+    /// changes no line. It changes the work counts only if memory ran out.
     pub fn insert(&mut self, alloc: Global, number: usize, text: &[u8]) -> Result<(), Refusal>
         ensures ok { OnOk result ((insert_refusal (length self.old.lines) number text.now ≡ None)
             × (self.new.lines ≡ insert self.old.lines (number - 1) text.now)) }
@@ -268,9 +268,9 @@ impl Source {
         Ok(())
     }
 
-    /// Replaces the text of line `number`, counted from 1, and returns the range of indexes that it
-    /// wrote in the image, if that is known. A refused edit changes no line; it changes the work
-    /// only if memory ran out.
+    /// Replaces the text of line `number`, counted from 1, and returns the range of image indexes
+    /// that it wrote, if that range is known. A refused edit changes no line. It changes the work
+    /// counts only if memory ran out.
     pub fn replace(
         &mut self,
         alloc: Global,
@@ -306,8 +306,8 @@ impl Source {
         )
     }
 
-    /// Removes line `number`, counted from 1. A refused edit changes no line; it changes the work
-    /// only if memory ran out.
+    /// Removes line `number`, counted from 1. A refused edit changes no line. It changes the work
+    /// counts only if memory ran out.
     pub fn delete(&mut self, alloc: Global, number: usize) -> Result<(), Refusal>
         ensures ok { OnOk result ((delete_refusal (length self.old.lines) number ≡ None)
             × (self.new.lines ≡ remove self.old.lines (number - 1))) }
@@ -333,7 +333,7 @@ impl Source {
     }
 }
 
-/// The names that the source gives, with their values.
+/// The names that the source defines, with their values.
 impl Names for Source {
     ghost symbols = { λ s. values_of (symbols_of s.lines) };
 

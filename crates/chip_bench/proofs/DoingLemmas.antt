@@ -1,4 +1,4 @@
--- What each command did, from what its steps did.
+-- The effects of each command, derived from the effects of its steps.
 use Rattle.std.proofs.Common.{◌≡◌, inl, inr, ℕ, Bool, true, false, List, [], ◌++◌, append_assoc, Option, Some, None, Err, refl, sym, ◌∙◌, ap, subst}
 use Rattle.std.specs.Prelude.{MatchOption}
 use Rattle.std.specs.Borrow.{Bor}
@@ -51,7 +51,7 @@ module _ {R W : Type 0} (remaining : R → Option (List ℕ)) (contents : W → 
       subst (λ (line : CommandLine). Does remaining contents in_old in_new out_old out_new takes_color line ended) (sym e) did
 
 module _ {R W : Type 0} (remaining : R → Option (List ℕ)) (contents : W → Option (List ℕ)) (input : Tally R) (output : Tally W) where
-  -- there are no settings for a session
+  -- the settings of the session can't be built
   pub debugs_unsettled : (source : Option (Bor (List ℕ))) (is_image : Bool) (arguments : SettingArguments) (ended : Outcome) (why : Failure) → ended ≡ Err why →
       Unsettles (settings_asked arguments) why → Debugs remaining contents input input output output source is_image arguments ended
   debugs_unsettled None is_image arguments ended why e u = by_asked (settings_asked arguments) u
@@ -78,7 +78,7 @@ module _ {R W : Type 0} (remaining : R → Option (List ℕ)) (contents : W → 
       by_kind true (inl (short, is)) = absurd is
       by_kind true (inr (is, _)) = inr (fails (IsImageRefused name bytes) ended why e is, (refl, refl))
 
--- there is a page, or none
+-- there is a page about the code, or there is none
 pub explained : (code : Option (Bor (List ℕ))) (name : Bor (List ℕ)) (text : List ℕ) → code ≡ Some name → IsExplained name.now (Some text) →
     IsExplanation code (printed text Done)
 explained code name text is found = rw is (found, refl)
@@ -107,7 +107,7 @@ module _ {R W : Type 0} (remaining : R → Option (List ℕ)) (contents : W → 
       source_unread remaining in_old in_new (output ≡ output) refl source
       (λ bytes. IfOpens contents output output (open_fault bytes) (WritesBy contents output output (ending_with (image_of (lines_of bytes))) (printed_faults (lines_of bytes)) name)) ended why e w
 
-  -- a run's arguments can't be read
+  -- the arguments of `run` can't be read
   pub runs_not : (arguments : RunArguments) (ended : Outcome) (why : Failure) → ended ≡ Err why → IsUnasked remaining in_old in_new arguments why →
       Runs remaining contents in_old in_new output output arguments ended
   runs_not arguments ended why e is =
@@ -149,13 +149,13 @@ module _ {R W : Type 0} (remaining : R → Option (List ℕ)) (contents : W → 
   abbrev WithPicture : SessionSettings → List ℕ → List ℕ → Outcome → Type 0
   WithPicture settings keys source = WithSession contents old new settings source keys (Pictured contents old new arguments)
 
-  -- a picture's arguments were read, and then this was done
+  -- the arguments of `picture` were read, and then the picture was shown
   pub pictures : (asked : AskedRun) → IsAsked remaining in_old in_new arguments.run asked →
       WithSession contents old new asked.settings asked.source.items asked.keys.bytes.items (Pictured contents old new arguments) ended →
       Pictures remaining contents in_old in_new old new arguments ended
   pictures asked is did = asked_then remaining in_old in_new (new ≡ old) arguments.run WithPicture ended asked is did
 
-  -- a picture's arguments couldn't be read
+  -- the arguments of `picture` couldn't be read
   pub pictures_not : (why : Failure) → new ≡ old → ended ≡ Err why → IsUnasked remaining in_old in_new arguments.run why →
       Pictures remaining contents in_old in_new old new arguments ended
   pictures_not why same e is = asked_not remaining in_old in_new (new ≡ old) arguments.run WithPicture ended same why e is

@@ -1,4 +1,4 @@
--- A session for which memory ran out before it began.
+-- A session for which memory ran out before the session began.
 use Rattle.std.proofs.Common.{◌≡◌, ℕ, List, [], Option, Some, None, Err, refl, sym, ap}
 use Rattle.std.proofs.lemmas.List.{append-nil}
 use Rattle.chip_asm.specs.Lines.{open_fault}
@@ -19,7 +19,7 @@ empty_opens : open_fault [] ≡ None
 empty_opens = refl
 
 module _ {R W : Type 0} (remaining : R → Option (List ℕ)) (contents : W → Option (List ℕ)) where
-  -- nothing was read or written as memory ran out
+  -- nothing was read or written, because memory ran out
   pub stays_put : (settings : SessionSettings) (input : Tally R) (output : Tally W) →
       Converses remaining contents settings [] input input output output (Err fault.OutOfMemory)
   stays_put settings input output = record {

@@ -1,4 +1,4 @@
--- What was done with a session, and why a question isn't answered.
+-- The effects of a session, and the reasons why a question isn't answered.
 use Rattle.std.proofs.Common.{◌≡◌, ◌∙◌, inl, inr, ap, ℕ, List, Option, None, Some, Result, Ok, Err, IfOk, refl, subst, sym}
 use Rattle.std.specs.Prelude.{IsErr, IsOkAnd}
 use Rattle.chip_asm.specs.Lines.{lines_of, open_fault}
@@ -28,7 +28,7 @@ use Rattle.chip_host.proofs.OpenedLemmas.{refused, false_is_true}
 
 module _ {W : Type 0} (contents : W → Option (List ℕ)) (old new : Tally W) where
   module _ (settings : SessionSettings) (source keys : List ℕ) (Did : Session → Outcome → Type 0) (ended : Outcome) where
-    -- a session was opened, and this was done with it
+    -- a session was opened, and had these effects
     pub with_session : (s : Session) → IsSessionOf settings source keys s → Did s ended → WithSession contents old new settings source keys Did ended
     with_session s is did = inl (rw (is.opens, is.made) (subst (λ (t : Session). Did t ended) is.is did))
 
@@ -39,7 +39,7 @@ module _ {W : Type 0} (contents : W → Option (List ℕ)) (old new : Tally W) w
         inr (r'.0, r'.1)
     without_session e (inr found) r = inl (rw found (refused contents old new e ended r))
 
-    -- the key events can't be made
+    -- the key events can't be added
     pub unmade_session : (why : Failure) → ended ≡ Err why → IsUnmade settings source keys why → new ≡ old → WithSession contents old new settings source keys Did ended
     unmade_session why e (inl short) same = inr (e ∙ ap (λ w. Err w) short, same)
     unmade_session why e (inr (opens, line)) same = inl (rw opens (by_line (key_fault (session_of settings source) keys) why e line))
@@ -49,7 +49,7 @@ module _ {W : Type 0} (contents : W → Option (List ℕ)) (old new : Tally W) w
         by_line fault (failure.BadKeys name number code) e is = rw (is, e) (refl, same)
         by_line fault _ e is = absurd is
 
-  -- nothing is done with a source that doesn't open
+  -- a source that doesn't open never leads to the ending `Done`
   pub not_done : (e : OpenError) (ended : Outcome) → Refuses contents old new e ended → ended ≡ Ok Done → ⊥
   not_done (unopened.LineTooLong n) ended r done = let printed = rw done at r in other printed.0
     where
@@ -64,7 +64,7 @@ module _ {W : Type 0} (contents : W → Option (List ℕ)) (old new : Tally W) w
       short : ◌≡◌ {A = Outcome} (Ok Done) (Err failure.OutOfMemory) → ⊥
       short h = cc
 
-  -- memory ran out for what is written
+  -- memory ran out for the output
   pub writes_short : (ending : Ending) (wanted : Printed) (name : Bor (List ℕ)) (ended : Outcome) → ended ≡ Err failure.OutOfMemory → new ≡ old →
       WritesBy contents old new ending wanted name ended
   writes_short Done wanted name ended e same = (rw e (inr (inl refl)), same)
@@ -97,7 +97,7 @@ pub unmade_is : (settings : SessionSettings) (source keys file : List ℕ) (open
     (open_fault source ≡ None) × (key_fault (session_of settings source) keys ≡ Some line)
 unmade_is settings source keys file opened line opens is same fault = (opens, rw (is, same) at fault)
 
--- why a question isn't answered, unless memory ran out
+-- the reason why a question isn't answered, unless memory ran out
 pub told_why : {E : Type 0} (answer : Result (List ℕ) Refusal) (why : Refusal) (result : Result Answer E) (faults : Printed) → IsUnanswered answer why →
     IfOk result (λ given. printed_by given ≡ unanswered why faults) → (why ≡ AnswerMemory → IsErr result) →
     IfOk result (λ given. printed_by given ≡ answer_or_why answer faults)

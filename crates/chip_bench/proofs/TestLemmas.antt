@@ -19,7 +19,7 @@ use Rattle.std.specs.Borrow.{Bor}
 use Rattle.chip_session.specs.Transcript.{after, reply}
 
 module _ (start : Session) (steps : List Step) where
-  -- all answers are as expected exactly if those so far are and those that are left will be
+  -- all answers are as expected exactly if the answers so far are and the remaining ones will be
   pub record PassesSoFar (session : Session) (place : ℕ) (others : List Given) : Type 0 where
     pub same : Passes start (map expectation_of steps) ↔ ((others ≡ []) × Passes session (drop place (map expectation_of steps)))
 
@@ -66,7 +66,7 @@ nothing_there : (others : List Given) → (length others == 0) ≡ true → othe
 nothing_there [] e = refl
 nothing_there (given ∷ others) e = absurd (let n : length (given ∷ others) ≡ 0 = eqb-true (length (given ∷ others)) 0 e in omega arith)
 
--- the source opens, and all key events can be made
+-- the source opens, and all key events can be added
 pub passes_case : (settings : SessionSettings) (source keys : List ℕ) (steps : List Expectation) (under : Session) (others : List Given) →
     IsSessionOf settings source keys under → (others ≡ []) ↔ Passes under steps → ((length others == 0) ≡ true) ↔ CasePasses settings source keys steps
 passes_case settings source keys steps under others of same = (
@@ -74,7 +74,7 @@ passes_case settings source keys steps under others of same = (
   λ p. ap (λ l. length l == 0) (same.1 (subst (λ s. Passes s steps) (sym of.is) p.answers)),
 )
 
--- one of the key events can't be made
+-- one of the key events can't be added
 pub unmade_case : (settings : SessionSettings) (source keys : List ℕ) (steps : List Expectation) (name : Bor (List ℕ)) (number : ℕ) (code : Code) →
     IsUnmade settings source keys (failure.BadKeys name number code) → (false ≡ true) ↔ CasePasses settings source keys steps
 unmade_case settings source keys steps name number code (inl short) = absurd (not_short short)
@@ -92,7 +92,7 @@ not_case settings source keys steps fault other (inr is) =
     (λ no. absurd (let n : false ≡ true = no in cc), λ p. absurd (let n : Some fault ≡ None = sym is ∙ p.opens in cc))
 
 module _ {A : Type 0} (Judges : A → Bool → Type 0) (xs : List A) where
-  -- whether all elements pass, given that it is known whether those that are left pass
+  -- whether all elements pass, given whether the remaining ones pass
   abbrev pub JudgesSoFar : ℕ → Bool → Type 0
   JudgesSoFar place passes = (others : Bool) → JudgesAll Judges (drop place xs) others → JudgesAll Judges xs (passes && others)
 
@@ -121,7 +121,7 @@ module _ {A : Type 0} (Judges : A → Bool → Type 0) (xs : List A) where
   left_over (y ∷ ys) zero h = (y, refl)
   left_over (y ∷ ys) (suc place) h = left_over ys place (omega arith)
 
-  -- one element more, where its verdict doesn't depend on which element it is
+  -- one more element, if its verdict doesn't depend on the element
   pub judges_any : (place : ℕ) (passes one : Bool) → place < length xs → ((x : A) → Judges x one) → JudgesSoFar place passes → JudgesSoFar (place + 1) (passes && one)
   judges_any place passes one within judged so_far others left =
       let first = left_over xs place within in

@@ -1,4 +1,4 @@
--- What a command prints part by part, and what `trace` prints.
+-- The output that a command prints part by part, and the output of `trace`.
 use Rattle.std.proofs.Common.{◌≡◌, inl, inr, ℕ, ◌<◌, Bool, true, false, List, [], ◌∷◌, ◌++◌, append_assoc, append-nil, Option, Some, None, Result, Ok, Err, refl, sym, ◌∙◌, ap, take, drop, length, arith}
 use Rattle.chip_bench.specs.Doing.{ShowsTrace}
 use Rattle.chip_host.specs.Printing.{Printed, Prints, Streams, WritesFront, printed, printed_faults}
@@ -27,7 +27,7 @@ module _ {W : Type 0} (contents : W → Option (List ℕ)) (old new : Tally W) w
   nothing_written : (text : List ℕ) → new ≡ old → WritesFront contents old new text
   nothing_written text same = rw same (record { front = []; begins = (text, refl); appended = Appends-nil (contents old.inner); no_failure = refl })
 
-  -- what is printed at once
+  -- output that is printed at once
   pub streams_prints : (wanted : Printed) (result : Result Ending Failure) → Prints contents old new wanted result → Streams contents old new wanted result
   streams_prints wanted (Ok ending) p = p
   streams_prints wanted (Err failure.Output) p = p
@@ -38,7 +38,7 @@ module _ {W : Type 0} (contents : W → Option (List ℕ)) (old new : Tally W) w
   pub short : (wanted : Printed) (result : Result Ending Failure) → result ≡ Err failure.OutOfMemory → new ≡ old → Streams contents old new wanted result
   short wanted result e same = rw e (nothing_written wanted.text same)
 
-  -- why there is no trace, whether it is alone or beside another
+  -- the reason why there is no trace, alone or in a comparison
   pub refused_trace : (shown : Shown) (theirs : Option (List (List ℕ))) (session : Session) (why : Refusal) (result : Result Ending Failure) →
       trace_refusal session shown ≡ Some why → Prints contents old new (unanswered why (printed_faults session.lines)) result →
       ShowsTrace contents old new shown theirs session result
@@ -55,14 +55,14 @@ none_left all most more ended answer =
       | inr le ↦ drop_all most all le
     ]
 
--- fewer lines remain
+-- some lines remain, fewer than before
 pub fewer_left : (all after : List (List ℕ)) (most : ℕ) (more : Bool) → more ≡ true → 0 < most → IsTrue more ↔ (most < length all) → after ≡ drop most all → length after < length all
 fewer_left all after most more going some answer left =
     let lt : most < length all = answer.0 going in
     omega (arith, lt, some, ap length left, length-drop most all)
 
 module _ {W : Type 0} (contents : W → Option (List ℕ)) (old now : Tally W) (whole text : List ℕ) (rest : List (List ℕ)) where
-  -- what was written and what remains make the whole
+  -- the written bytes and the remaining ones make up the whole
   pub record Streamed : Type 0 where
     pub written : List ℕ
     pub appended : Appends (contents old.inner) (contents now.inner) written
@@ -78,7 +78,7 @@ module _ {W : Type 0} (contents : W → Option (List ℕ)) where
     whole_is = flat_map-append (λ (line : List ℕ). line ++ 10 ∷ []) headers rest;
   }
 
-  -- some lines were added to the text
+  -- some lines were appended to the text
   pub stream_adds : (old now : Tally W) (whole text text_after : List ℕ) (rest after : List (List ℕ)) (most : ℕ) → Streamed contents old now whole text rest
       → text_after ≡ text ++ newline_ended (take most rest) → after ≡ drop most rest → Streamed contents old now whole text_after after
   stream_adds old now whole text text_after rest after most s added left = record {
@@ -128,14 +128,14 @@ module _ {W : Type 0} (contents : W → Option (List ℕ)) where
     counted = b.counted ∙ ap one_more s.failures;
   }
 
-  -- a print that failed
+  -- a print failed
   pub stream_fails : (old now next : Tally W) (whole text : List ℕ) (rest : List (List ℕ)) (why : Failure) → Streamed contents old now whole text rest
       → Prints contents now next (printed text Done) (Err why) → Streams contents old next (printed whole Done) (Err why)
   stream_fails old now next whole text rest failure.Output s p = stream_breaks old now next whole text rest s p
   stream_fails old now next whole text rest failure.OutOfMemory s p = rw p (stream_stops old now whole text rest s)
   stream_fails old now next whole text rest _ s p = absurd p
 
--- the lines below the machine's name, where there is one
+-- the lines after the machine's name, if there is one
 pub below_named : (all : List (List ℕ)) → names_machine (header_of all) ≡ true → below_machine all ≡ lines_after all
 below_named [] named = refl
 below_named (line ∷ more) named = rw (named) refl

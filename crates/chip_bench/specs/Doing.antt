@@ -1,9 +1,9 @@
 -- The effects of each command that the arguments can ask for (chosen by this project).
---     WritesBy                       what was written to a file
---     PrintsTable                    what is printed of a source's lines
---     Debugs, Assembles, Tells, Runs, Traces, Pictures    what each command did
---     Does                           what the program did for a command line
---     Performs, ShowsHelp, ShowsVersion   what the program did for its arguments
+--     WritesBy                       the file that was written
+--     PrintsTable                    the table printed for the lines of a source
+--     Debugs, Assembles, Tells, Runs, Traces, Pictures    the effects of each command
+--     Does                           the effects of a command line
+--     Performs, ShowsHelp, ShowsVersion   the effects of the program's arguments
 use Rattle.std.specs.Prelude.{◌≡◌, ◌≢◌, ◌⊎◌, ℕ, ◌≤◌, min, Bool, true, false, List, [], length, Option, Some, None, MatchOption, Ok, if◌then◌else◌}
 use Rattle.std.specs.Borrow.{Bor}
 use Rattle.chip_asm.specs.Lines.{lines_of, open_fault}
@@ -48,8 +48,8 @@ use Rattle.chip_session.specs.declared.picture.PictureForm.TheVariants as form
 use Rattle.chip_host.specs.Reading.{AsSource, Declined, FromSource, FromGiven, IfSettled, WithAsked}
 use Rattle.chip_analysis.specs.Commands.{Checks, Explores, Proves}
 
--- the part of a run that a trace with these columns shows; if the arguments name a first step after the last
--- one, the trace begins at the last one
+-- the part of a run that a trace with these columns shows; if the arguments specify a first step
+-- after the last one, the trace begins at the last step
 abbrev pub shown_by : TraceArguments → List Column → Shown
 shown_by arguments columns = record {
   columns = columns;
@@ -58,19 +58,19 @@ shown_by arguments columns = record {
   to = arguments.run.steps;
 }
 
--- the page on a code, or all codes without one
+-- the page about a code, or the list of all codes if no code is given
 abbrev pub IsExplanation : Option (Bor (List ℕ)) → Printed → Type 0
 IsExplanation None wanted = IsContents wanted.text × (wanted.ending ≡ Done)
 IsExplanation (Some code) wanted = IsExplained code.now (Some wanted.text) × (wanted.ending ≡ Done)
 
--- there is no page on the code, or memory ran out
+-- there is no page about the code, or memory ran out
 abbrev pub IsUnexplained : Option (Bor (List ℕ)) → Failure → Type 0
 IsUnexplained None why = IsShort why
 IsUnexplained (Some code) why = IsShort why ⊎ (IsExplained code.now None × (why ≡ failure.NoPage code))
 
--- Files that were written, and text that was printed.
+-- The files that were written, and the text that was printed.
 module _ {W : Type 0} (contents : W → Option (List ℕ)) (out_old out_new : Tally W) where
-  -- If there is something to write, its file was written, or couldn't be; otherwise this is printed instead.
+  -- If there is something to write, its file was written or the write failed; otherwise this text is printed instead.
   abbrev pub WritesBy : Ending → Printed → Bor (List ℕ) → Outcome → Type 0
   WritesBy Done wanted name ended = IsFileWritten name ended × (out_new ≡ out_old)
   WritesBy ending wanted name ended = Prints contents out_old out_new wanted ended
@@ -84,8 +84,8 @@ module _ {W : Type 0} (contents : W → Option (List ℕ)) (out_old out_new : Ta
       IfOpens contents out_old out_new (open_fault source)
       (Prints contents out_old out_new (printed_by (lines_of source))) ended
 
-  -- `picture`: without a file, the picture is printed. Of two files, the second is written if the first was.
-  -- A picture in a file has `scale` pixels in each row and each column for one pixel of the screen.
+  -- `picture`: without a file, the picture is printed. If two files are named, the second is written
+  -- only if the first was. In a file, each pixel of the screen is `scale` pixels wide and high.
   abbrev pub PicturesBy : (pictured : PictureForm → Printed) → (is_ascii : Bool)
       → (scale : ℕ) → (bitmap png : Option (Bor (List ℕ))) → Outcome → Type 0
   PicturesBy pictured is_ascii scale None None ended =
@@ -98,15 +98,15 @@ module _ {W : Type 0} (contents : W → Option (List ℕ)) (out_old out_new : Ta
       (WritesPicture (pictured (form.ScaledBitmap scale)) bitmap ended × (ended ≢ Ok Done))
       ⊎ WritesPicture (pictured (form.ScaledPng scale)) png ended
 
-  -- the lines of a session's run, or where they first differ from those of another trace
+  -- the lines of a session's run, or where they first differ from the lines of another trace
   abbrev pub ShowsTrace : Shown → (theirs : Option (List (List ℕ))) → Session → Outcome → Type 0
   ShowsTrace shown None session ended =
       Streams contents out_old out_new (printed_trace session shown) ended
   ShowsTrace shown (Some theirs) session ended =
       PrintsSuch contents out_old out_new (IsCompared session shown theirs) ended
 
-  -- the lines of a run compared with those of another trace, which have fields, and whose header names the
-  -- columns
+  -- the comparison of a run with another trace, whose lines consist of fields, and whose header
+  -- names the columns
   abbrev pub TracesBeside : TraceArguments → SessionSettings → (keys source : List ℕ)
       → (name : Bor (List ℕ)) → (theirs : List (List ℕ)) → Outcome → Type 0
   TracesBeside arguments settings keys source name theirs ended =
@@ -133,7 +133,7 @@ module _ {W : Type 0} (contents : W → Option (List ℕ)) (out_old out_new : Ta
 -- The effects of the commands.
 module _ {R W : Type 0} (remaining : R → Option (List ℕ)) (contents : W → Option (List ℕ))
     (in_old in_new : Tally R) (out_old out_new : Tally W) where
-  -- `debug`: a session on a source, or on the empty one without a source, unless the settings are bad
+  -- `debug`: a session on a source, or on the empty source if none is named, unless the settings are bad
   abbrev pub Debugs : Option (Bor (List ℕ)) → (is_image : Bool) → SettingArguments → Outcome → Type 0
   Debugs None is_image arguments ended =
       MatchOption (settings_asked arguments)
@@ -145,7 +145,7 @@ module _ {R W : Type 0} (remaining : R → Option (List ℕ)) (contents : W → 
       AnswersScript remaining contents settings source in_old in_new out_old out_new) bytes ended)
       ⊎ Declined remaining in_old in_new (out_new ≡ out_old) (IsUnread name) ended) ended
 
-  -- `asm`: if the source has an image, its file was written, or couldn't be; otherwise the faults are printed
+  -- `asm`: if the source has an image, its file was written or the write failed; otherwise the faults are printed
   abbrev pub Assembles : Bor (List ℕ) → Bor (List ℕ) → Outcome → Type 0
   Assembles source name ended =
       FromSource remaining in_old in_new (out_new ≡ out_old) source (λ bytes.
@@ -153,7 +153,7 @@ module _ {R W : Type 0} (remaining : R → Option (List ℕ)) (contents : W → 
       (WritesBy contents out_old out_new (ending_with (image_of (lines_of bytes)))
       (printed_faults (lines_of bytes)) name)) ended
 
-  -- `list` and `syms`: what is printed of the lines of the source, which is an image if the arguments say so
+  -- `list` and `syms`: the output for the lines of the source, or of an image if `is_image` is true
   abbrev pub Tells : (printed_by : List (List ℕ) → Printed) → (is_image : Bool) → Bor (List ℕ) → Outcome
       → Type 0
   Tells printed_by is_image source ended =
@@ -181,8 +181,8 @@ module _ {R W : Type 0} (remaining : R → Option (List ℕ)) (contents : W → 
       (λ session. PicturesBy contents out_old out_new (printed_picture session arguments.run.steps)
       arguments.ascii arguments.scale arguments.bitmap arguments.png)) ended
 
-  -- The effects of a command line, where `takes_color` says whether its output takes colours. For `dis` it
-  -- printed the source of an image that isn't too long, and for `explain` a page or the contents.
+  -- The effects of a command line; `takes_color` is whether the output accepts colours. `dis` prints
+  -- the source of an image that isn't too long, and `explain` a page or the list of all codes.
   abbrev pub Does : (takes_color : Bool) → CommandLine → Outcome → Type 0
   Does takes_color (line.Debug source is_image is_quiet arguments) ended = Debugs source is_image arguments ended
   Does takes_color (line.Asm source image) ended = Assembles source image ended
@@ -208,20 +208,20 @@ module _ {R W : Type 0} (remaining : R → Option (List ℕ)) (contents : W → 
   Does takes_color line.Licences ended =
       Prints contents out_old out_new (printed licences_text Done) ended × (in_new ≡ in_old)
 
-  -- the effects of arguments without a fault: the program did what they ask for, unless memory ran out for
-  -- reading them
+  -- the effects of valid arguments: the program did what they specify, unless memory ran out while
+  -- they were parsed
   abbrev pub Performs : (takes_color : Bool) → List (List ℕ) → Outcome → Type 0
   Performs takes_color arguments ended =
       ((asked : CommandLine) × AsksFor arguments asked × Does takes_color asked ended)
       ⊎ Declined remaining in_old in_new (out_new ≡ out_old) IsShort ended
 
-  -- the effect of the word for help: the program printed some text
+  -- the effect of a request for help: the program printed a text
   abbrev pub ShowsHelp : Outcome → Type 0
   ShowsHelp ended =
       ((text : List ℕ) × Prints contents out_old out_new (printed text Done) ended)
       × (in_new ≡ in_old)
 
-  -- the effect of the word for the version
+  -- the effect of a request for the version
   abbrev pub ShowsVersion : Outcome → Type 0
   ShowsVersion ended =
       Prints contents out_old out_new (printed version_text Done) ended × (in_new ≡ in_old)

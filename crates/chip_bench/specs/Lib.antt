@@ -1,11 +1,11 @@
--- The subjects of the contracts of chip_bench (chosen by this project).
---     Printing     what the commands print of a source, and what was done with a session
---     Running      what a run of the program reads, writes and answers
---     Holding      a writer that holds bytes back
---     Tracing      what `trace` prints of a session's run
---     Testing      what `test` finds of files of cases
---     Doing        what the program does for each command that its arguments can ask for
---     inner        for private contracts: what was read, and what was written to files
+-- The definitions behind the contracts of chip_bench (chosen by this project).
+--     Printing     the output of commands about a source, and the effects of a session
+--     Running      the input, output and status of a run of the program
+--     Holding      a writer that buffers bytes
+--     Tracing      the output of `trace` for a session's run
+--     Testing      the result of `test` for files of cases
+--     Doing        the effects of the program for each command that its arguments can specify
+--     inner        for private contracts: the input that was read, and the files that were written
 pub mod Printing
 pub mod Running
 pub mod Holding

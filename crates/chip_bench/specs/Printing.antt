@@ -25,8 +25,8 @@ use Rattle.chip_session.specs.declared.refusal.Refusal.{Refusal}
 use Rattle.chip_session.specs.declared.refusal.Refusal.TheVariants.{NoImage}
 use Rattle.chip_host.specs.Printing.{Printed, printed, printed_faults, ending_with, IfOpens}
 
--- `list` and `syms`, with values in decimal or in hexadecimal; if the source has no image, `syms` prints the
--- faults instead of the names
+-- `list` and `syms`, with values in decimal or in hexadecimal; if the source has no image, `syms`
+-- prints the faults instead of the symbols
 abbrev pub table_with : Option (List ℕ) → Table → (is_hex : Bool) → List (List ℕ) → Printed
 table_with image Listing false lines = printed (listing_text (listing_of lines)) (ending_with image)
 table_with image Listing true lines = printed (listing_text (hex_listing lines)) (ending_with image)
@@ -53,20 +53,20 @@ both_answers (Ok registers) (Ok screen) = Ok (registers ++ screen)
 both_answers (Ok registers) (Err why) = Err why
 both_answers (Err why) screen = Err why
 
--- `run`: the answers to both questions, or why there are none
+-- `run`: the answers to both questions, or the reason why there are none
 abbrev pub printed_run : Session → ℕ → Printed
 printed_run session step =
     answer_or_why (both_answers (answer_to session (Registers step))
     (answer_to session (Screen step))) (printed_faults session.lines)
 
--- `picture`: the picture, or why there is none
+-- `picture`: the picture, or the reason why there is none
 abbrev pub printed_picture : Session → ℕ → PictureForm → Printed
 printed_picture session step form =
     answer_or_why (picture_asked session form step) (printed_faults session.lines)
 
 module _ {W : Type 0} (contents : W → Option (List ℕ)) (old new : Tally W) where
-  -- The effects of a command if all key events can be made. Otherwise nothing was printed, and the failure
-  -- has the number of the first refused line and the code.
+  -- The effects of a command if all key events can be added. Otherwise nothing was printed, and the
+  -- failure contains the number of the first refused line and its code.
   abbrev pub UnlessRefused : Option (ℕ × List ℕ) → (Did : Result Ending Failure → Type 0)
       → Result Ending Failure → Type 0
   UnlessRefused None Did result = Did result
@@ -74,9 +74,9 @@ module _ {W : Type 0} (contents : W → Option (List ℕ)) (old new : Tally W) w
       (line ≡ (number, code.0.now)) × (new ≡ old)
   UnlessRefused (Some line) Did _ = ⊥
 
-  -- The effects of a command with the session of a source and those settings, under the key events of a file.
-  -- If the source doesn't open, it prints why; if a line of the key file is refused, it names the first such
-  -- line; or memory ran out before.
+  -- The effects of a command on the session of a source with these settings, under the key events
+  -- of a file. If the source doesn't open, the command prints why. If a line of the key file is
+  -- refused, the failure names the first such line. If memory ran out, nothing was printed.
   abbrev pub WithSession : SessionSettings → (source keys : List ℕ)
       → (Session → Result Ending Failure → Type 0) → Result Ending Failure → Type 0
   WithSession settings source keys Did result =

@@ -20,13 +20,13 @@ use Rattle.chip_session.specs.declared.server.ServeError.{ServeError}
 use Rattle.chip_session.specs.declared.server.ServeError.TheVariants as fault
 use Rattle.chip_host.specs.Endings.{ending_status, failure_status}
 
--- the status for an ending or a failure, and for the flush at the end: a failed flush changes the status only
--- if nothing failed before
+-- the status for an ending or a failure, and for the final flush: a failed flush changes the status
+-- only if nothing failed before
 abbrev pub status_of : Result Ending Failure → Bool → ℕ
 status_of (Ok ending) flushed = if flushed then ending_status ending else 3
 status_of (Err failure) flushed = failure_status failure
 
--- the ending of the program after a session on a source that opens, before the flush
+-- the ending of the program after a session on a source that opens, before the final flush
 abbrev pub result_after : Result Unit ServeError → Result Ending Failure
 result_after (Ok _) = Ok Done
 result_after (Err fault.ReaderFailed) = Err failure.Input
@@ -37,8 +37,8 @@ result_after (Err _) = Err failure.OutOfMemory
 module _ {R W : Type 0} (remaining : R → Option (List ℕ)) (contents : W → Option (List ℕ))
     (settings : SessionSettings) (source : List ℕ)
     (in_old in_new : Tally R) (out_old out_new : Tally W) where
-  -- A session on a source that ended this way. What it read and wrote is its transcript, as far as that
-  -- ending says, and the reader or the writer counts one failure more exactly if the ending names it.
+  -- A session that ended with this result. It read and wrote its transcript, as far as `Served` states for that
+  -- result. The failure count of the reader or writer rises by one exactly if the result names that failure.
   pub record Converses (served : Result Unit ServeError) : Type 0 where
     pub transcript : Exchanges (remaining in_old.inner) (remaining in_new.inner)
         (contents out_old.inner) (contents out_new.inner)
@@ -47,8 +47,8 @@ module _ {R W : Type 0} (remaining : R → Option (List ℕ)) (contents : W → 
     pub reader_failed : in_new.failures ≡ reader_failures served in_old.failures
     pub writer_failed : out_new.failures ≡ writer_failures served out_old.failures
 
-  -- The effects of a script on a source, if the session ended this way. If the source doesn't open, or memory
-  -- ran out as it was opened, nothing was read, and the source is refused.
+  -- The effects of a script on a source, if the session ended with this result. If the source
+  -- doesn't open, or memory ran out during the opening, nothing was read and the source is refused.
   abbrev pub AnswersAs : Result Ending Failure → Result Unit ServeError → Type 0
   AnswersAs result (Err (fault.Source e)) =
       ((e ≡ unopened_memory) ⊎ (open_fault source ≡ Some e))
@@ -58,8 +58,8 @@ module _ {R W : Type 0} (remaining : R → Option (List ℕ)) (contents : W → 
   abbrev pub AnswersScript : Result Ending Failure → Type 0
   AnswersScript result = (served : Result Unit ServeError) × AnswersAs result served
 
--- The end of the program: `Did` says what it did, after which the output was flushed. `flushed` says whether
--- the flush succeeded; a failed flush is counted.
+-- The end of the program: `Did` states the effects before the output was flushed, and `flushed`
+-- whether the flush succeeded. A failed flush is counted.
 pub record Ends {W : Type 0} (contents : W → Option (List ℕ)) (Did : Tally W → Result Ending Failure → Type 0)
     (out_new : Tally W) (status : ℕ) : Type 0 where
   pub written : Tally W
@@ -70,20 +70,20 @@ pub record Ends {W : Type 0} (contents : W → Option (List ℕ)) (Did : Tally W
   pub failures : out_new.failures ≡ failures_after_flush flushed written.failures
   pub status_is : status ≡ status_of ended flushed
 
--- The program without arguments: a session on the empty source, which opens unless memory runs out.
+-- A run without arguments: a session on the empty source, which opens unless memory runs out.
 abbrev pub RunsSession : {R W : Type 0} → (remaining : R → Option (List ℕ))
     → (contents : W → Option (List ℕ)) → (in_old in_new : Tally R) (out_old out_new : Tally W)
     → (status : ℕ) → Type 0
 RunsSession remaining contents in_old in_new out_old =
     Ends contents (AnswersScript remaining contents default_settings [] in_old in_new out_old)
 
--- the status if the system can't give the program's arguments as text; after any error it is 4 if memory runs
--- out for the report
+-- the status if the system can't return the program's arguments as text; after any error, it is 4
+-- if memory runs out during the report
 abbrev pub IsWithoutArguments : IoErrorKind → ℕ → Type 0
 IsWithoutArguments io_kind.OutOfMemory status = status ≡ 4
 IsWithoutArguments _ status = (status ≡ 2) ⊎ (status ≡ 4)
 
--- arguments with a fault: they are neither a request for help or for the version, nor in order
+-- invalid arguments, as opposed to valid ones and to a request for help or the version
 abbrev pub AreFaulty : Kinds → Type 0
 AreFaulty kinds =
     (kinds ≢ []) × (IsAmong kind.DisplayHelp kinds → ⊥) × (IsAmong kind.DisplayVersion kinds → ⊥)

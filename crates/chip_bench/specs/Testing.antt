@@ -1,7 +1,7 @@
--- The findings of `test` in files of cases (chosen by this project).
+-- The results of `test` for files of cases (chosen by this project).
 --     Passes, CasePasses     each answer of a case's session is as expected
---     SetBy, IsCaseSource, IsCaseKeys     what the lines of a case ask for
---     Judges                 a case, the cases of a file and those of all files, and whether all pass
+--     SetBy, IsCaseSource, IsCaseKeys     the settings, the source and the key events that the lines of a case specify
+--     JudgesCase, JudgesAll, JudgesFile    whether a case, all cases of a list, or the cases of a file pass
 --     Tests                  how the program ends
 use Rattle.std.specs.Prelude.{◌≡◌, ◌⊎◌, ℕ, ◌≤◌, ◌==◌, ◌&&◌, Bool, true, false, IsTrue, ◌↔◌, List, [], ◌∷◌, length, map, Option, Some, None, option_copied, Result, Ok, Err, if◌then◌else◌}
 use Rattle.std.specs.Borrow.{Bor}
@@ -34,15 +34,15 @@ use Rattle.chip_host.specs.declared.ending.Ending.TheVariants.{Done, Faulty}
 use Rattle.chip_host.specs.declared.ending.Failure.{Failure}
 use Rattle.chip_host.specs.declared.limits.TheConstants.{KEY_FILE_BYTES, TEST_FILE_BYTES}
 
--- the answers of the session to these commands, one after another, are as expected
+-- the session answers these commands, in order, as expected
 abbrev pub Passes : Session → List Expectation → Type 0
 Passes session [] = Unit {0}
 Passes session (step ∷ steps) =
     IsAnswered step.expected (reply session step.command)
     × Passes (after session step.command) steps
 
--- A case passes if its source opens, all its key events can be made, and each answer of its session under
--- them is as expected.
+-- A case passes if its source opens, all its key events can be added, and each answer of its
+-- session is as expected.
 pub record CasePasses (settings : SessionSettings) (source keys : List ℕ)
     (steps : List Expectation) : Type 0 where
   pub opens : open_fault source ≡ None
@@ -60,7 +60,7 @@ abbrev pub text_of : Option Placed → Option (List ℕ)
 text_of None = None
 text_of (Some placed) = Some placed.text.now
 
--- the settings that the lines of a case ask for, as the arguments of the program ask for them
+-- the settings that the lines of a case specify, with the same meaning as in the program's arguments
 pub record SetBy (setup : Setup) (arguments : SettingArguments) : Type 0 where
   pub rate : ReadsOr 32 (text_of setup.rate) 10 arguments.rate
   pub tape : option_copied arguments.tape ≡ text_of setup.tape
@@ -68,25 +68,25 @@ pub record SetBy (setup : Setup) (arguments : SettingArguments) : Type 0 where
   pub quirks : quirks_asked (text_of setup.profile) (text_of setup.quirks) ≡ Some arguments.quirks
   pub spacing : ReadsOr 32 (text_of setup.every) LEAST_SPACING arguments.spacing
 
--- the source that `dis` prints of some image; no contract describes the bytes of that image
+-- the text that `dis` prints for an image; no contract describes the bytes of that image
 abbrev pub IsSourceOfImage : List ℕ → Type 0
 IsSourceOfImage source =
     (image : List ℕ) × ((length image ≤ IMAGE_BYTES) × (source ≡ source_of_image image))
 
--- the source of a case: nothing, its lines, the bytes of a file, which no contract describes, or what `dis`
--- prints of an image
+-- the source of a case: empty, its lines, the bytes of a file, which no contract describes, or the
+-- text that `dis` prints for an image
 abbrev pub IsCaseSource : CaseSource → List ℕ → Type 0
 IsCaseSource case_source.Empty source = source ≡ []
 IsCaseSource (case_source.Lines lines) source = source ≡ lines.now
 IsCaseSource (case_source.File name) source = Unit {0}
 IsCaseSource (case_source.Image name) source = IsSourceOfImage source
 
--- the key events of a case: none, or those of a file that isn't too long
+-- the key events of a case: none, or the bytes of a file that isn't too long
 abbrev pub IsCaseKeys : Option Placed → List ℕ → Type 0
 IsCaseKeys None keys = keys ≡ []
 IsCaseKeys (Some name) keys = length keys ≤ KEY_FILE_BYTES
 
--- whether a case passes, on the source, the key events and the settings that its lines ask for
+-- whether a case passes with the source, the key events and the settings that its lines specify
 pub record JudgesCase (case : Case) (passes : Bool) : Type 0 where
   pub arguments : SettingArguments
   pub settings : SessionSettings
@@ -99,21 +99,21 @@ pub record JudgesCase (case : Case) (passes : Bool) : Type 0 where
   pub judged : IsTrue passes
       ↔ CasePasses settings source keys (map expectation_of case.steps.items)
 
--- whether all of these pass, where `Judges` says whether one does
+-- whether all elements pass, if `Judges` states whether an element does
 abbrev pub JudgesAll : {A : Type 0} → (A → Bool → Type 0) → List A → Bool → Type 0
 JudgesAll Judges [] passes = passes ≡ true
 JudgesAll Judges (x ∷ xs) passes =
     (one : Bool) × ((others : Bool)
     × Judges x one × JudgesAll Judges xs others × (passes ≡ (one && others)))
 
--- whether the cases of a file pass; of the file's bytes, contracts say only how many there are at most
+-- whether the cases of a file pass; contracts state nothing about the file's bytes except their maximum number
 abbrev pub JudgesFile : Bor (List ℕ) → Bool → Type 0
 JudgesFile name passes =
     (text : List ℕ) × ((cases : List Case) × (length text ≤ TEST_FILE_BYTES)
     × AreCases text cases × JudgesAll JudgesCase cases passes)
 
--- the failures that hinder a test: a file that can't be read or written, a file that isn't one of cases, an
--- output that fails, or memory that ran out
+-- the failures that prevent a test: a file that can't be read or written, a file that doesn't
+-- contain cases, a failure of the output, or a lack of memory
 abbrev pub IsHindrance : Failure → Type 0
 IsHindrance why = (failure_status why ≡ 3) ⊎ (failure_status why ≡ 4)
 

@@ -1,5 +1,5 @@
--- The output of `trace` for a session's run, by itself or beside the lines of another trace (chosen by this
--- project).
+-- The output of `trace` for a session's run, alone or compared with the lines of another trace
+-- (chosen by this project).
 use Rattle.std.specs.Prelude.{◌≡◌, ℕ, ◌||◌, Bool, List, [], ◌∷◌, is_none, nat_lt, Option, Some, None, if◌then◌else◌}
 use Rattle.chip_asm.specs.Program.{image_of}
 use Rattle.chip_replay.specs.Limits.{last_step}
@@ -20,7 +20,7 @@ use Rattle.chip_bench.specs.declared.tracing.Shown.{Shown}
 abbrev pub is_past_last : Shown → Bool
 is_past_last shown = nat_lt last_step shown.from || nat_lt last_step shown.to
 
--- the reason why there is no trace of the session's run, if there is none
+-- the reason why the session's run can't be traced, if there is one
 abbrev pub trace_refusal : Session → Shown → Option Refusal
 trace_refusal session shown =
     if is_none (image_of session.lines) then Some NoImage
@@ -36,17 +36,17 @@ abbrev pub trace_unless : Option Refusal → Session → Shown → Printed
 trace_unless (Some why) session shown = unanswered why (printed_faults session.lines)
 trace_unless None session shown = printed (trace_of session shown) Done
 
--- `trace`: the trace of the session's run, or why there is none
+-- `trace`: the trace of the session's run, or the reason why there is none
 abbrev pub printed_trace : Session → Shown → Printed
 printed_trace session shown = trace_unless (trace_refusal session shown) session shown
 
--- the output of a comparison: nothing if all lines agree, otherwise where they first differ
+-- the output of a comparison: nothing if all lines agree, and otherwise where they first differ
 abbrev pub IsReport : (from : ℕ) → Option Difference → Printed → Type 0
 IsReport from None wanted = wanted ≡ printed [] Done
 IsReport from (Some found) wanted =
     (wanted.ending ≡ Faulty) × IsDifferenceText from found wanted.text
 
--- the lines of the session's run compared with those of another trace
+-- the comparison of the session's run with the lines of another trace
 abbrev pub IsBeside : Session → Shown → (theirs : List (List ℕ)) → Printed → Type 0
 IsBeside session shown theirs wanted =
     (found : Option Difference)
@@ -60,12 +60,12 @@ IsComparedUnless (Some why) session shown theirs wanted =
     wanted ≡ unanswered why (printed_faults session.lines)
 IsComparedUnless None session shown theirs wanted = IsBeside session shown theirs wanted
 
--- `trace --against`: what is printed of the session's run beside another trace, or why nothing is
+-- `trace --against`: the output of the comparison with another trace, or the reason why there is none
 abbrev pub IsCompared : Session → Shown → (theirs : List (List ℕ)) → Printed → Type 0
 IsCompared session shown theirs wanted =
     IsComparedUnless (trace_refusal session shown) session shown theirs wanted
 
--- the lines of a trace below the one that names the machine, if there is one
+-- the lines of a trace, without the line that names the machine if there is one
 abbrev pub below_machine : List (List ℕ) → List (List ℕ)
 below_machine [] = []
 below_machine (line ∷ lines) = if names_machine line then lines else (line ∷ lines)

@@ -1,3 +1,3 @@
--- Definitions for private contracts: what was read for a command, and what was written to files.
+-- Definitions for private contracts: the input that a command read, and the files that were written.
 pub mod Reads
 pub mod Written

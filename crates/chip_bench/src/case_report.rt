@@ -1,4 +1,4 @@
-//! The report on cases: which failed, and how many passed.
+//! The report on cases: which cases failed, and how many passed.
 
 use crate::case_run::Verdict;
 use crate::terminal::word_page;
@@ -20,7 +20,7 @@ pub(crate) struct Report {
 }
 
 impl Report {
-    /// Returns a report on no case, in the form of the Test Anything Protocol if `is_tap` says so.
+    /// Returns a report without cases. If `is_tap` is true, the report uses the Test Anything Protocol.
     pub(crate) fn new(alloc: Global, is_tap: bool) -> Self {
         Report {
             text: Vec::new(alloc),
@@ -30,8 +30,8 @@ impl Report {
         }
     }
 
-    /// Adds the outcome of a case of a file. `fault` has the lines of the first fault of its source, if an
-    /// answer is that there is no image.
+    /// Appends the outcome of a case in a file. `fault` is the report of the source's first fault
+    /// if an answer is that there is no image; otherwise it is empty.
     pub(crate) fn push_case(
         &mut self,
         alloc: Global,
@@ -53,7 +53,7 @@ impl Report {
             let mut details = Vec::new(alloc);
             push_failure(alloc, &mut details, file, case, verdict)?;
             details.extend_from_slice(fault)?;
-            // Lines are comments in the Test Anything Protocol. The last line ends with a line feed too.
+            // In the Test Anything Protocol, these lines are comments. Every line ends with a line feed.
             let mut start = 0;
             for (end, byte) in details.iter().enumerate() {
                 if *byte == b'\n' {
@@ -70,8 +70,8 @@ impl Report {
         Ok(())
     }
 
-    /// Adds how many cases passed, and how many failed. In the Test Anything Protocol, adds how many cases
-    /// there are.
+    /// Appends how many cases passed and how many failed. In the Test Anything Protocol, appends
+    /// the number of cases.
     pub(crate) fn push_counts(&mut self) -> Result<(), AllocError> {
         let mut passed = Buffer::new();
         let mut other = Buffer::new();
@@ -113,8 +113,8 @@ impl Report {
     }
 }
 
-// Adds a name to a line of the Test Anything Protocol, where a number sign begins a directive unless a
-// backslash precedes it.
+// Appends a name to a line of the Test Anything Protocol, in which a number sign begins a directive
+// unless a backslash precedes it.
 fn push_tap_text(alloc: Global, text: &mut Vec<u8>, name: &[u8]) -> Result<(), AllocError> {
     let mut marked = Vec::new(alloc);
     for byte in name {
@@ -126,7 +126,7 @@ fn push_tap_text(alloc: Global, text: &mut Vec<u8>, name: &[u8]) -> Result<(), A
     push_as_shown(alloc, text, &marked)
 }
 
-// Adds why a case failed.
+// Appends the reason why a case failed.
 fn push_failure(
     alloc: Global,
     text: &mut Vec<u8>,
@@ -157,7 +157,7 @@ fn push_failure(
     }
 }
 
-// Adds the place of a failure: the file, the line and the case.
+// Appends the place of a failure: the file, the line and the case.
 fn push_place(text: &mut Vec<u8>, file: &str, line: usize, name: &[u8]) -> Result<(), AllocError> {
     let mut digits = Buffer::new();
     let number = digits.format(line as u64).as_bytes();
@@ -168,8 +168,8 @@ fn push_place(text: &mut Vec<u8>, file: &str, line: usize, name: &[u8]) -> Resul
     Ok(())
 }
 
-// Adds a command, the reason if it was refused unexpectedly, and how its answer differs from what is
-// expected.
+// Appends a command, the reason if it was unexpectedly refused, and how its answer differs from the
+// expected one.
 fn push_other_answer(
     alloc: Global,
     text: &mut Vec<u8>,
@@ -187,7 +187,7 @@ fn push_other_answer(
     text.extend_from_slice(&difference)
 }
 
-// Adds the meaning of a code, if it is known. For C1, adds the form of the command that the first word names.
+// Appends the meaning of a code, if it has a page. For C1, appends the form of the command that the first word names.
 fn push_title(text: &mut Vec<u8>, code: &[u8], command: &[u8]) -> Result<(), AllocError> {
     let Ok(code) = str::from_utf8(code) else {
         return Ok(());
@@ -204,7 +204,7 @@ fn push_title(text: &mut Vec<u8>, code: &[u8], command: &[u8]) -> Result<(), All
     Ok(())
 }
 
-// Adds texts, one after another.
+// Appends texts in order.
 fn push_parts(text: &mut Vec<u8>, parts: &[&[u8]]) -> Result<(), AllocError> {
     for part in parts {
         text.extend_from_slice(part)?;

@@ -1,4 +1,4 @@
-//! A run of a case, and the answers of its session that differ from the expected ones.
+//! Runs a case, and finds the answers of its session that differ from the expected ones.
 ghost use Rattle.std.specs.Prelude.{◌≡◌, ◌↔◌, false, [], IsTrue, IfOk, OnOk, map};
 ghost use Rattle.chip_cases.specs.Steps.{expectation_of};
 ghost use Rattle.chip_bench.specs.Testing.{CasePasses, Passes, has_passed};
@@ -17,7 +17,7 @@ pub(crate) enum Verdict {
     Unopened(OpenError),
     /// The line with this number of the key events is refused.
     BadKeys(usize, Code),
-    /// All commands were answered. The list has the answers that were not as expected, in their order.
+    /// All commands were answered. The list contains the answers that were not as expected, in order.
     Answered(Vec<Given>),
 }
 
@@ -33,7 +33,7 @@ impl Verdict {
     }
 }
 
-/// Carries out the commands of a case on a source, under key events and settings.
+/// Carries out the commands of a case on a source, under the given key events and settings.
 ///
 /// # Errors
 ///
@@ -62,7 +62,7 @@ pub(crate) fn run_case(
     }
 }
 
-// Returns the answers that are not as expected. All commands are carried out.
+// Carries out all commands, and returns the answers that are not as expected.
 fn other_answers(
     alloc: Global,
     bench: &mut Bench,
@@ -81,7 +81,7 @@ fn other_answers(
     Ok(others)
 }
 
-// Keeps the answer to the command of a line, unless it is as expected.
+// Keeps the answer to the command on a line, unless it is as expected.
 fn keep_other(
     others: &mut Vec<Given>,
     line: usize,

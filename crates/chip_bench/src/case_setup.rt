@@ -1,4 +1,4 @@
-//! The settings, the source and the key events that the lines of a case ask for.
+//! The settings, the source and the key events that the lines of a case specify.
 ghost use Rattle.std.specs.Prelude.{◌≡◌, ◌≤◌, IfOk, IfErr, Some, length, option_copied};
 ghost use Rattle.chip_arguments.specs.CommandArguments.{ReadsNumber, ReadsOr};
 ghost use Rattle.chip_host.specs.SettingArguments.{settings_asked};
@@ -17,14 +17,14 @@ use std::alloc::Global;
 use std::path::Path;
 use std::{io, str};
 
-// The reason why a line of a case is refused, with the number of the line.
+// The reason why a line of a case is refused, and the number of that line.
 #[derive(Clone, Copy)]
 struct BadLine {
     line: usize,
     why: TestFault,
 }
 
-/// Returns the settings that the lines of a case ask for.
+/// Returns the settings that the lines of a case specify.
 pub(crate) fn case_settings<'a>(
     alloc: Global,
     name: &'a str,
@@ -92,7 +92,7 @@ fn text_of(placed: Option<Placed<'_>>) -> Result<Option<&str>, BadLine>
     }
 }
 
-// Returns a number from `least` to `most`, or the default without a text.
+// Returns the number in a text, from `least` to `most`, or the default if there is no text.
 fn number_of(
     placed: Option<Placed<'_>>,
     default: u32,
@@ -142,7 +142,7 @@ pub(crate) fn case_source<'a, F: FileAccess>(
         CaseSource::Empty => Ok(Vec::new(system.alloc)),
         CaseSource::Lines(lines) => Ok(Vec::from_slice(system.alloc, lines)?),
         CaseSource::File(placed) => read_named(system, name, placed, MOST_SOURCE),
-        // The source that `dis` prints of the image.
+        // The source is the text that `dis` prints for the image.
         CaseSource::Image(placed) => {
             let most = IMAGE_BYTES as u32;
             let image = read_within(system, name, placed, most, "it has over 3584 bytes")?;
@@ -151,7 +151,7 @@ pub(crate) fn case_source<'a, F: FileAccess>(
     }
 }
 
-/// Returns the bytes of a case's file of key events, or no bytes without a file.
+/// Returns the bytes of a case's key file, or no bytes if it has none.
 pub(crate) fn case_keys<'a, F: FileAccess>(
     system: &System<'_, F>,
     name: &'a str,
@@ -172,8 +172,8 @@ pub(crate) fn case_keys<'a, F: FileAccess>(
     }
 }
 
-// Returns the bytes of a file that is named relative to the folder of the file of cases. Fails if there are
-// more than `most`.
+// Returns the bytes of a file whose name is relative to the folder of the file with the cases.
+// Fails if the file has more than `most` bytes.
 fn read_within<'a, F: FileAccess>(
     system: &System<'_, F>,
     name: &'a str,
@@ -192,7 +192,7 @@ fn read_within<'a, F: FileAccess>(
     Ok(bytes)
 }
 
-// Returns the first bytes of such a file, at most `most`.
+// Returns the first bytes of such a file, but at most `most` bytes.
 fn read_named<'a, F: FileAccess>(
     system: &System<'_, F>,
     name: &'a str,

@@ -38,15 +38,15 @@ use std::io::{Read, Write};
 use std::rt::{Clock, Files};
 use std::{io, mem};
 
-/// Runs the program with the arguments after its name, and returns its status: 0 if it did what it was asked,
-/// 1 if the source has faults or doesn't open, 2 for arguments that it doesn't take, 3 if a file, input or
-/// output failed or there was too much input, and 4 if memory ran out.
+/// Runs the program with the arguments after its name, and returns its status: 0 if it did what was
+/// asked, 1 if the source has faults or doesn't open, 2 if the arguments are invalid, 3 if a file,
+/// the input or the output failed or there was too much input, and 4 if memory ran out.
 ///
-/// `asm` writes the whole image to its file, or leaves the file as it was. Only a target that is written in
-/// place, such as a pipe or a file with several names, may have taken some bytes before a failure.
+/// `asm` writes its file atomically. However, a target that is written in place, such as a pipe or
+/// a file with several names, may contain some of the bytes after a failure.
 ///
 /// Without arguments, the program carries out the script on `input` with the empty source, and writes the
-/// answers to `output`. Whatever hinders it is reported on `errors`, where failures are ignored.
+/// answers to `output`. Failures are reported on `errors`; errors while writing these reports are ignored.
 pub fn program<F: Files + Clock, S: AsStr, I: Read, O: Write, E: Write>(
     system: &System<'_, F>,
     arguments: &[S],
@@ -56,21 +56,21 @@ pub fn program<F: Files + Clock, S: AsStr, I: Read, O: Write, E: Write>(
 ) -> u8
     ensures session { arguments.now ≡ [] → RunsSession I.remaining O.contents input.old input.new
         output.old output.new result }
-    // Arguments with a fault are refused, and nothing is read or written.
+    // Invalid arguments are refused, and nothing is read or written.
     ensures usage { AreFaulty (argument_faults (map S.text arguments.now)) → ((result ≡ 2) ⊎ (result ≡ 4))
         × (input.new ≡ input.old)
         × Keeps (O.contents output.old.inner) (O.contents output.new.inner) }
-    // Arguments without a fault ask for a command, and the program carries it out.
+    // Valid arguments specify a command, and the program carries it out.
     ensures good { argument_faults (map S.text arguments.now) ≡ [] → Ends O.contents (λ written ended.
         Performs I.remaining O.contents input.old input.new output.old written
         system.now.host.takes_color (map S.text arguments.now) ended)
         output.new result }
-    // The word for help prints help. No contract describes its text, which `clap` makes.
+    // A request for help prints help. No contract describes the text, which `clap` generates.
     ensures help { argument_faults (map S.text arguments.now) ≡ ErrorKind.DisplayHelp ∷ []
         → Ends O.contents (λ written ended.
         ShowsHelp I.remaining O.contents input.old input.new output.old written ended)
         output.new result }
-    // The word for the version prints the version.
+    // A request for the version prints the version.
     ensures version { argument_faults (map S.text arguments.now) ≡ ErrorKind.DisplayVersion ∷ []
         → Ends O.contents (λ written ended.
         ShowsVersion I.remaining O.contents input.old input.new output.old written ended)
@@ -85,7 +85,7 @@ pub fn program<F: Files + Clock, S: AsStr, I: Read, O: Write, E: Write>(
     status
 }
 
-/// Reports that the system can't give the program's arguments as text, and returns the status.
+/// Reports that the system can't return the program's arguments as text, and returns the status.
 pub fn refuse_arguments<E: Write>(alloc: Global, error: &io::Error, errors: &mut E) -> u8
     ensures { IsWithoutArguments (error_kind error.now) result }
 {
@@ -101,7 +101,7 @@ pub fn refuse_arguments<E: Write>(alloc: Global, error: &io::Error, errors: &mut
     }
 }
 
-// Returns the status after the flush of the output, and reports a failure.
+// Returns the status after the output was flushed, and reports a failure.
 fn finish<E: Write>(ended: Result<Ending, Failure<'_>>, is_flushed: bool, errors: &mut E) -> u8
     ensures { result ≡ status_of ended.entry is_flushed }
 {
@@ -113,15 +113,15 @@ fn finish<E: Write>(ended: Result<Ending, Failure<'_>>, is_flushed: bool, errors
     }
 }
 
-// The advice that follows the report of a failure.
+// The advice to print after the report of a failure.
 #[derive(Clone, Copy)]
 enum Advice {
     Nothing,
-    /// The words to type for a game. Given if the first word is not a command.
+    /// The commands to type for a game. Printed if the first argument is not a command.
     Commands,
-    /// The reason why the tape is bad. Given only to a reader, because programs know the line above it.
+    /// The reason why the tape is bad. Printed only for a user at a terminal; for programs, the line above suffices.
     Tape(TapeFault),
-    /// The folder of a file isn't there. Given only to a reader, too.
+    /// The folder of a file doesn't exist. Also printed only for a user at a terminal.
     Folder,
 }
 
@@ -154,7 +154,7 @@ fn advise<S: AsStr, E: Write>(advice: Advice, arguments: &[S], has_reader: bool,
     }
 }
 
-// Prints what to type for a game: for the file of the first word, if that looks like the name of a file.
+// Prints the commands to type for a game. If the first argument looks like a file name, the commands contain it.
 fn advise_commands<S: AsStr, E: Write>(arguments: &[S], errors: &mut E) {
     let Some(first) = arguments.first() else {
         return;
@@ -176,7 +176,7 @@ fn advise_commands<S: AsStr, E: Write>(arguments: &[S], errors: &mut E) {
     );
 }
 
-// Whether a word has a dot, and no character that a shell or a terminal treats specially.
+// Whether a word contains a dot, but no character that a shell or a terminal treats specially.
 fn is_file_name(word: &str) -> bool {
     word.contains('.')
         && word.chars().all(|character| {
@@ -186,7 +186,7 @@ fn is_file_name(word: &str) -> bool {
         })
 }
 
-// Returns the first argument, or an empty text without arguments.
+// Returns the first argument, or an empty text if there are no arguments.
 fn first_of<S: AsStr>(arguments: &[S]) -> &str {
     match arguments.first() {
         Some(first) => first.as_str(),
@@ -194,8 +194,8 @@ fn first_of<S: AsStr>(arguments: &[S]) -> &str {
     }
 }
 
-// Reports a failure, and returns its status. Failures of the arguments are already reported. Failures of
-// standard error are ignored.
+// Reports a failure, and returns its status. Invalid arguments have already been reported. Errors
+// of standard error are ignored.
 fn report<E: Write>(failure: Failure<'_>, errors: &mut E) -> u8
     ensures { result ≡ failure_status failure.entry }
 {
@@ -243,8 +243,8 @@ fn carry_out<'a, F: FileAccess + Clock, S: AsStr, I: Read, O: Write, E: Write>(
     }
 }
 
-// Carries out a command. Its arguments are behind a reference, because otherwise each arm would drop what it
-// took.
+// Carries out a command. Its arguments are passed by reference; otherwise each arm would drop the
+// values that it took from them.
 fn perform<'a, F: FileAccess + Clock, I: Read, O: Write, E: Write>(
     system: &System<'_, F>,
     line: &CommandLine<'a>,
@@ -294,7 +294,7 @@ fn perform<'a, F: FileAccess + Clock, I: Read, O: Write, E: Write>(
         }
         CommandLine::Check(arguments) => check(system, arguments, input, output, errors),
         CommandLine::Dis { image } => {
-            // The source of an image, which assembles to that image.
+            // `source` is the text that assembles to the image.
             let source = read_given(system, *image, true, input, errors)?;
             print(&source, Ending::Done, output)
         }
@@ -312,16 +312,16 @@ fn perform<'a, F: FileAccess + Clock, I: Read, O: Write, E: Write>(
     }
 }
 
-// The arguments of `debug`: the name of a source or an image, or none for the empty source.
+// The arguments of `debug`: the name of a source or an image. Without a name, the source is empty.
 #[derive(Clone, Copy)]
 struct DebugArguments<'a> {
     source: Option<&'a str>,
     is_image: bool,
-    /// Whether the messages to somebody who types the script are switched off.
+    /// Whether the messages for a user who types the script are switched off.
     is_quiet: bool,
 }
 
-// Carries out `debug`. The settings are judged before SOURCE is read.
+// Carries out `debug`. The settings are checked before SOURCE is read.
 fn debug<'a, F: FileAccess, I: Read, O: Write, E: Write>(
     system: &System<'_, F>,
     given: DebugArguments<'a>,
@@ -407,7 +407,7 @@ fn assemble<'a, F: FileAccess, O: Write>(
     }
 }
 
-// The table that is asked for, and the name of its source.
+// The requested table, and the name of its source.
 #[derive(Clone, Copy)]
 struct TableArguments<'a> {
     table: Table,
@@ -415,7 +415,7 @@ struct TableArguments<'a> {
     is_hex: bool,
 }
 
-// `list` and `syms`: prints a table of the source with these bytes.
+// `list` and `syms`: prints a table for the source with these bytes.
 fn tell<'a, F: FileAccess, O: Write, E: Write>(
     system: &System<'_, F>,
     given: TableArguments<'_>,

@@ -1,4 +1,4 @@
-//! A writer that holds bytes back, and gives them up if a write or a flush fails.
+//! A writer that buffers bytes, and discards them if a write or a flush fails.
 ghost use Rattle.std.specs.Prelude.{◌≡◌, ◌<◌, ◌≤◌, ◌↔◌, [], length, IsTrue, IfOk, IfErr, OnOk, OnErr};
 ghost use Rattle.std.specs.IoError.{error_kind};
 ghost use Rattle.std.specs.Io.{WritesAtMost};
@@ -9,8 +9,8 @@ use std::alloc::Global;
 use std::io::{Error, ErrorKind, Result, Write};
 use std::marker::Model;
 
-// A writer that is called up to its first failure, and never again. A write that takes none of some bytes is
-// a failure, and so is an interrupted one.
+// A writer that is never called again after its first failure. An interrupted write is a failure,
+// and so is a write that accepts none of one or more bytes.
 #[derive(Drop)]
 struct UntilFailure<W> {
     inner: Counted<W>,
@@ -37,7 +37,7 @@ impl<W> UntilFailure<W> {
 }
 
 impl<W: Write> UntilFailure<W> {
-    // Makes one write of the writer inside, or none if one of its calls has failed.
+    // Writes once to the inner writer, unless one of its calls has failed.
     fn write(&mut self, buf: &[u8]) -> Result<usize>
         ensures bound { WritesAtMost result buf.now }
         ensures bytes { WriteAppends (W.contents self.old.inner) (W.contents self.new.inner)
@@ -56,7 +56,7 @@ impl<W: Write> UntilFailure<W> {
         }
     }
 
-    // Makes one flush of the writer inside, or none if one of its calls has failed.
+    // Flushes the inner writer once, unless one of its calls has failed.
     fn flush(&mut self) -> Result<()>
         ensures bytes { Keeps (W.contents self.old.inner) (W.contents self.new.inner) }
         ensures ok { OnOk result ((self.old.failures ≡ 0) × (self.new.failures ≡ 0)) }
@@ -70,17 +70,17 @@ impl<W: Write> UntilFailure<W> {
     }
 }
 
-// Returns the error of each call after a failure.
+// Returns the error for each call after a failure.
 fn given_up() -> Error {
     Error::new(ErrorKind::BrokenPipe, "an earlier write failed")
 }
 
-/// A writer that holds bytes back, up to a number, and writes them together.
+/// A writer that buffers bytes up to a limit, and writes them together.
 ///
-/// Once a write or a flush of the writer inside fails, or is interrupted, the writer inside isn't called
-/// again: the held bytes are given up, and each later write and flush fails. The bytes that reached the
-/// writer inside are a front of those that were taken, and after a successful flush they are all of them.
-/// Bytes that are still held when this value is dropped are never written.
+/// Once a write or a flush of the inner writer fails or is interrupted, the inner writer isn't called
+/// again. The buffered bytes are discarded, and each later write and flush fails. The bytes that reached
+/// the inner writer are a prefix of the bytes that this writer accepted; after a successful flush, they
+/// are all of them. Bytes that are still buffered when this value is dropped are never written.
 #[derive(Drop)]
 pub struct HeldWriter<W> {
     inner: UntilFailure<W>,
@@ -101,13 +101,13 @@ impl<W> Model for HeldWriter<W> {
       most = writer.most;
     } };
 
-    // The buffer has room for as many bytes as may be held, so it never grows.
+    // The buffer has the capacity for all bytes that may be held, so it never grows.
     ghost invariant = { λ writer. (length writer.held.items ≤ writer.most)
         × (writer.most ≤ vec_capacity writer.held) };
 }
 
 impl<W> HeldWriter<W> {
-    /// Returns a writer that holds back at most `most` bytes. With 0, it holds back none.
+    /// Returns a writer that buffers at most `most` bytes. With 0, it buffers none.
     ///
     /// # Errors
     ///
@@ -135,7 +135,7 @@ impl<W> HeldWriter<W> {
 impl<W: Write> HeldWriter<W> {
     ghost use Rattle.chip_bench.specs.Holding.{taken_bytes};
 
-    // Writes all held bytes, unless a write fails.
+    // Writes all buffered bytes, unless a write fails.
     fn write_held(&mut self) -> Result<()>
         ensures bytes { Keeps (taken_bytes W.contents self.old)
             (taken_bytes W.contents self.new) }
@@ -159,16 +159,16 @@ impl<W: Write> Write for HeldWriter<W> {
 
     ghost contents = { λ writer. taken_bytes W.contents writer };
 
-    /// Holds all the bytes, and first writes those held before if there is no room. If there are more bytes
-    /// than may be held, passes them to the writer inside at once.
+    /// Buffers all the bytes, after writing those already buffered if there isn't enough room. If
+    /// there are more bytes than the buffer can hold, passes them directly to the inner writer.
     fn write(&mut self, buf: &[u8]) -> Result<usize>
         ensures bound { WritesAtMost result buf.now }
         ensures bytes { WriteAppends (taken_bytes W.contents self.old)
             (taken_bytes W.contents self.new) result buf.now }
-        // If this succeeds, no call of the writer inside has failed. Otherwise exactly one has.
+        // If this call succeeds, no call of the inner writer has failed. Otherwise exactly one call has failed.
         ensures ok { OnOk result ((self.old.failures ≡ 0) × (self.new.failures ≡ 0)) }
         ensures err { OnErr result (self.new.failures ≡ 1) }
-        // After a failure, the writer inside isn't called again.
+        // After a failure, the inner writer isn't called again.
         ensures given_up { self.old.failures ≡ 1 → self.new ≡ self.old }
         ensures most { self.new.most ≡ self.old.most }
         ensures bounded { length self.new.held ≤ self.new.most }
@@ -189,7 +189,7 @@ impl<W: Write> Write for HeldWriter<W> {
         Ok(buf.len())
     }
 
-    /// Writes all held bytes, and flushes the writer inside.
+    /// Writes all buffered bytes, and flushes the inner writer.
     fn flush(&mut self) -> Result<()>
         ensures bytes { Keeps (taken_bytes W.contents self.old) (taken_bytes W.contents self.new) }
         ensures all { OnOk result (self.new.held ≡ []) }

@@ -1,4 +1,4 @@
-//! The program over a session: what each command reads and prints, and how the program ends.
+//! The program that uses sessions: what each command reads and prints, and how the program ends.
 #![tactic(auto)]
 
 mod case_report;

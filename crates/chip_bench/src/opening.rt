@@ -1,4 +1,4 @@
-//! A session on a source, under the key events of a file.
+//! Opens a session on a source, under the key events of a file.
 ghost use Rattle.std.specs.Prelude.{IfErr, IfOk};
 ghost use Rattle.chip_bench.specs.inner.Reads.{IsSessionOf, IsUnmade};
 ghost use Rattle.chip_host.specs.Printing.{IsUnopened};
@@ -8,7 +8,7 @@ use chip_host::{Code, Failure, KeyFile};
 use chip_session::{Bench, KeyFileError, Settings, insert_keys};
 use std::alloc::Global;
 
-/// Opens a session on a source under the key events of a file, or returns why the source doesn't open.
+/// Opens a session on a source and adds the key events of a file, or returns why the source doesn't open.
 pub(crate) fn open_under<'a>(
     alloc: Global,
     source: &[u8],

@@ -1,4 +1,4 @@
-//! The answers of the commands, from the bytes of a source.
+//! The answers of the commands, computed from the bytes of a source.
 ghost use Rattle.std.specs.Prelude.{◌≡◌, Err, IfErr, IfOk, IsErr};
 ghost use Rattle.chip_host.specs.Printing.{printed, printed_faults, printed_by};
 ghost use Rattle.chip_bench.specs.Printing.{printed_run, printed_picture, printed_table, unanswered};
@@ -18,7 +18,7 @@ use chip_views::{hex_listing, hex_symbols};
 use std::alloc::{AllocError, Global};
 use std::io::{Read, Write};
 
-/// `debug`: a session on standard input and output.
+/// `debug`: runs a session on standard input and output.
 pub(crate) fn answer_script<'a, I: Read, O: Write, T: Observer>(
     alloc: Global,
     source: &[u8],
@@ -40,17 +40,17 @@ pub(crate) fn answer_script<'a, I: Read, O: Write, T: Observer>(
     }
 }
 
-/// A table about a source.
+/// A table for a source.
 #[derive(Clone, Copy)]
 pub(crate) enum Table {
     /// The lines, with their addresses and bytes.
     Listing,
-    /// The names, with their values.
+    /// The symbols: names with their values and line numbers.
     Symbols,
 }
 
-/// `list` and `syms`: returns a table of a source, with values in decimal or in hexadecimal. If the source
-/// has no image, `syms` gives the faults instead of the names.
+/// `list` and `syms`: returns a table for a source, with values in decimal or in hexadecimal. If
+/// the source has no image, `syms` prints the faults instead of the symbols.
 pub(crate) fn tabulate(
     alloc: Global,
     table: Table,
@@ -76,7 +76,7 @@ pub(crate) fn tabulate(
     }
 }
 
-/// `explain`: returns the page on a code, or all codes without one.
+/// `explain`: returns the page about a code, or the list of all codes if no code is given.
 pub(crate) fn explain<'a>(alloc: Global, code: Option<&'a str>) -> Result<Answer, Failure<'a>>
     ensures ok { IfOk result (λ answer. IsExplanation code.entry (printed_by answer)) }
     ensures err { IfErr result (IsUnexplained code.entry) }
@@ -112,7 +112,7 @@ pub(crate) fn version(alloc: Global) -> Result<Answer, AllocError>
     })
 }
 
-/// `run`: returns the answers to the questions about a step, or the faults if there is no image.
+/// `run`: returns the registers and the screen at a step, or the faults if there is no image.
 pub(crate) fn run_at(alloc: Global, bench: &mut Bench, step: u32) -> Result<Answer, AllocError>
     ensures { IfOk result (λ answer. printed_by answer ≡ printed_run bench.old.session step) }
 {
@@ -149,8 +149,8 @@ pub(crate) fn picture_at(
     }
 }
 
-/// Returns the answer to a refused question: the faults if there is no image, otherwise the code of the
-/// refusal. Fails if memory ran out.
+/// Returns the answer to a refused question: the faults if there is no image, and otherwise the
+/// code of the refusal. Fails if memory ran out.
 pub(crate) fn unanswered(alloc: Global, bench: &Bench, why: Refusal) -> Result<Answer, AllocError>
     ensures answer { IfOk result (λ answer.
         printed_by answer ≡ unanswered why (printed_faults bench.now.session.lines)) }

@@ -1,4 +1,4 @@
-//! `picture`: the screen after some steps, printed or written to files.
+//! `picture`: prints the screen after some steps, or writes it to files.
 ghost use Rattle.std.specs.Prelude.{◌≡◌, Ok, if◌then◌else◌};
 ghost use Rattle.chip_views.specs.declared.picture.Letters.TheVariants.{Blocks, Plain};
 ghost use Rattle.chip_bench.specs.Doing.{Pictures, PicturesBy, WritesPicture};
@@ -53,7 +53,7 @@ pub(crate) fn picture<'a, F: FileAccess, I: Read, O: Write, E: Write>(
     }
 }
 
-// Returns the characters that stand for the pixels.
+// Returns the set of characters that represent the pixels.
 fn letters_of(ascii: bool) -> Letters
     ensures { result ≡ (if ascii then Plain else Blocks) }
 {
@@ -94,7 +94,7 @@ fn show<'a, F: FileAccess, O: Write>(
     }
 }
 
-// Writes the picture to a file atomically. If there is no picture, prints the reason.
+// Writes the picture to a file atomically. If there is no picture, prints the reason instead.
 fn write<'a, F: FileAccess, O: Write>(
     system: &System<'_, F>,
     arguments: &PictureArguments<'a>,

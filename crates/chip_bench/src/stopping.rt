@@ -1,4 +1,4 @@
-//! The message of `run` and `picture`, for a reader at a terminal, about a machine that has stopped.
+//! The message about a stopped machine, which `run` and `picture` print for a user at a terminal.
 
 use chip_analysis::line_text;
 use chip_arguments::RunArguments;
@@ -9,8 +9,8 @@ use std::alloc::Global;
 use std::io::Write;
 use std::str;
 
-/// Tells at which step and at which line the machine of a run has stopped, and why. Nothing is told if the
-/// machine still runs, standard error fails or memory runs out.
+/// Reports the step and the line at which the machine of a run stopped, and the cause. Reports nothing
+/// if no user reads standard error, the machine still runs, writing fails, or memory runs out.
 pub(crate) fn tell_stop<F, E: Write>(
     system: &System<'_, F>,
     run: &RunArguments<'_>,
@@ -43,8 +43,8 @@ pub(crate) fn tell_stop<F, E: Write>(
     );
 }
 
-// Returns the first step at which the machine has stopped, which it has at step `last`. None if memory runs
-// out.
+// Returns the first step at which the machine is stopped, given that it is stopped at step `last`.
+// None if memory runs out.
 fn stop_step(alloc: Global, bench: &mut Bench, columns: &Columns, last: u32) -> Option<u32> {
     let (mut least, mut most) = (0_u32, last);
     for _half in 0..u32::BITS {
@@ -61,7 +61,7 @@ fn stop_step(alloc: Global, bench: &mut Bench, columns: &Columns, last: u32) -> 
     Some(most)
 }
 
-// Returns the row of this step, from a trace that has only this step. None without an image, or if memory runs out.
+// Returns the row of this step, from a trace of this step only. None if there is no image or memory runs out.
 fn row_at(alloc: Global, bench: &mut Bench, columns: &Columns, step: u32) -> Option<Vec<u8>> {
     if bench.source().image().is_none() {
         return None;
@@ -74,7 +74,7 @@ fn row_at(alloc: Global, bench: &mut Bench, columns: &Columns, step: u32) -> Opt
     }
 }
 
-// Returns the value of pc and the stop cause, if the row is that of a stopped machine.
+// Returns the value of pc and the stop cause, if the row describes a stopped machine.
 fn stop_of(row: &[u8]) -> Option<(u16, &str)> {
     let row = str::from_utf8(row).ok()?;
     let (pc, cause) = row.trim_ascii_end().split_once(' ')?;

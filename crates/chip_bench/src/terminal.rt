@@ -1,4 +1,4 @@
-//! The messages of `debug`, besides its answers, to somebody who types at a terminal.
+//! The messages that `debug` prints, in addition to its answers, for a user at a terminal.
 ghost use Rattle.std.specs.Prelude.{◌≡◌, false};
 ghost use Rattle.chip_bench.specs.Running.{AnswersScript};
 
@@ -13,18 +13,18 @@ use std::alloc::Global;
 use std::io::{Read, Write};
 use std::str;
 
-/// A session that is begun on the bytes of a source.
+/// A session that begins with the bytes of a source.
 #[derive(Clone, Copy)]
 pub(crate) struct Begun<'a> {
     pub(crate) source: &'a [u8],
-    /// The name of the source's file, where there is one.
+    /// The name of the source's file, if there is one.
     pub(crate) name: Option<&'a str>,
-    /// Whether somebody types the script, and reads what is said on standard error.
+    /// Whether a user types the script and reads standard error.
     pub(crate) is_typed: bool,
 }
 
-/// Answers a script. If somebody types it, messages on standard error describe the source of the session, show
-/// when the next command is awaited, and say why a command was refused.
+/// Answers a script. If a user types it, messages on standard error describe the source, show when
+/// the session waits for the next command, and explain why a command was refused.
 pub(crate) fn answer_begun<'a, I: Read, O: Write, E: Write>(
     alloc: Global,
     begun: Begun<'_>,
@@ -35,7 +35,7 @@ pub(crate) fn answer_begun<'a, I: Read, O: Write, E: Write>(
 ) -> Result<Ending, Failure<'a>>
     ensures answers { AnswersScript I.remaining O.contents settings begun.entry.source.now
         input.old input.new output.old output.new result }
-    // If nobody types, there are no messages.
+    // If no user types the script, there are no messages.
     ensures silent { begun.entry.is_typed ≡ false → errors.new ≡ errors.old }
 {
     if begun.is_typed {
@@ -51,7 +51,7 @@ pub(crate) fn answer_begun<'a, I: Read, O: Write, E: Write>(
     }
 }
 
-/// Returns the page on the word with which a command begins, if commands have that word.
+/// Returns the page about the first word of a command, if that word begins a known command.
 pub(crate) fn word_page(command: &[u8]) -> Option<&'static Page> {
     word_pages().iter().find(|page| {
         matches!(
@@ -61,7 +61,7 @@ pub(crate) fn word_page(command: &[u8]) -> Option<&'static Page> {
     })
 }
 
-// The person who types. Failures of standard error are ignored.
+// The user who types. Failures of standard error are ignored.
 #[derive(Drop)]
 struct Terminal<'e, E> {
     errors: &'e mut E,
@@ -111,8 +111,8 @@ impl<'e, E: Write> Observer for Terminal<'e, E> {
             Refused::Line(CommandFault::Unknown) if matches!(line, b"help" | b"quit" | b"exit") => {
                 self.say("`chipbench debug --help` lists the commands; Ctrl+D ends");
             }
-            // The message shows what would be right: the form of the command that the first word names, or
-            // else the words that name commands.
+            // The message shows a valid command: the form of the command that the first word names
+            // or, if there is none, the first words of all commands.
             Refused::Line(CommandFault::Unknown) => {
                 match word_page(line) {
                     Some(page) => {
@@ -147,8 +147,8 @@ impl<'e, E: Write> Terminal<'e, E> {
         let _ = self.errors.write_all(text.as_bytes());
     }
 
-    // Prints why the source doesn't open, as `check` prints it. A session is faulty only if its source
-    // doesn't open.
+    // Prints why the source doesn't open, as `check` prints it. Only a session whose source doesn't
+    // open ends as faulty.
     fn say_unopened(&mut self, alloc: Global, source: &[u8], ended: &Result<Ending, Failure<'_>>) {
         if !matches!(ended, Ok(Ending::Faulty)) {
             return;
@@ -161,7 +161,7 @@ impl<'e, E: Write> Terminal<'e, E> {
         }
     }
 
-    // Prints how many lines a source has.
+    // Prints the number of lines in a source.
     fn say_lines(&mut self, source: &Source) {
         match source.lines() {
             1 => self.say("1 line"),
@@ -171,7 +171,7 @@ impl<'e, E: Write> Terminal<'e, E> {
         }
     }
 
-    // Prints which line is the first with a fault, or that there is none.
+    // Prints which line has the first fault, or that there are no faults.
     fn say_fault(&mut self, source: &Source) {
         for number in 1..=source.lines() {
             if let Some(fault) = source.fault(number) {
@@ -183,7 +183,7 @@ impl<'e, E: Write> Terminal<'e, E> {
         self.say("no faults");
     }
 
-    // Prints the words that begin commands.
+    // Prints the first words of all commands.
     fn say_words(&mut self) {
         let mut between = "";
         for page in word_pages() {

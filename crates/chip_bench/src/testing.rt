@@ -1,4 +1,4 @@
-//! `test`: the cases of files, and the answers that they expect.
+//! `test`: runs the cases in files, and compares the answers with the expected ones.
 ghost use Rattle.std.specs.Prelude.{IfOk, IfErr};
 ghost use Rattle.chip_bench.specs.Testing.{IsHindrance, JudgesAll, JudgesCase, JudgesFile, Tests, has_passed};
 
@@ -15,7 +15,7 @@ use chip_session::Counted;
 use std::alloc::{AllocError, Global};
 use std::io::Write;
 
-/// `test`: carries out the cases of the files, one file after another, and prints what failed.
+/// `test`: carries out the cases in the files, file by file, and prints which cases failed.
 pub(crate) fn test_files<'a, F: FileAccess, O: Write>(
     system: &System<'_, F>,
     arguments: &TestArguments<'a>,
@@ -41,7 +41,7 @@ pub(crate) fn test_files<'a, F: FileAccess, O: Write>(
     })
 }
 
-// Carries out the cases of a file, and returns whether all pass.
+// Carries out the cases in a file, and returns whether all of them pass.
 fn test_file<'a, F: FileAccess>(
     system: &System<'_, F>,
     name: &'a str,
@@ -72,7 +72,7 @@ fn test_file<'a, F: FileAccess>(
     Ok(passes)
 }
 
-// Carries out cases, adds the answers that are not as expected, and returns whether all pass.
+// Carries out cases, reports the answers that are not as expected, and returns whether all cases pass.
 fn test_cases<'a, F: FileAccess>(
     system: &System<'_, F>,
     name: &'a str,
@@ -96,8 +96,8 @@ fn test_cases<'a, F: FileAccess>(
     Ok(has_passed)
 }
 
-// Returns the first fault of a case's source, as `check` prints it, if an answer is that there is no image.
-// Otherwise the text is empty.
+// Returns the first fault of a case's source, as `check` prints it, if an answer is that there is
+// no image. Otherwise returns an empty text.
 fn source_fault<F: FileAccess>(
     system: &System<'_, F>,
     name: &str,
@@ -123,7 +123,7 @@ fn source_fault<F: FileAccess>(
     first_fault(alloc, &source).unwrap_or(Vec::new(alloc))
 }
 
-// Returns the first fault of a source, as `check` prints it. The text is empty for a source without faults.
+// Returns the first fault of a source, as `check` prints it, or an empty text if the source has no faults.
 fn first_fault(alloc: Global, source: &Source) -> Result<Vec<u8>, AllocError> {
     for number in 1..=source.lines() {
         if source.fault(number).is_some() {
@@ -133,7 +133,7 @@ fn first_fault(alloc: Global, source: &Source) -> Result<Vec<u8>, AllocError> {
     Ok(Vec::new(alloc))
 }
 
-// Carries out a case on the source, the key events and the settings that its lines ask for.
+// Carries out a case with the source, the key events and the settings that its lines specify.
 fn test_case<'a, F: FileAccess>(
     system: &System<'_, F>,
     name: &'a str,

@@ -1,4 +1,4 @@
-//! `trace`: the lines of a run, by themselves or compared with those of another trace.
+//! `trace`: prints the lines of a run, or compares them with the lines of another trace.
 ghost use Rattle.std.specs.Prelude.{◌≡◌, None, IfOk, option_copied, option_map};
 ghost use Rattle.std.specs.Str.Lines.{lines};
 ghost use Rattle.chip_bench.specs.Doing.{ShowsTrace, Traces, shown_by};
@@ -24,11 +24,11 @@ use std::alloc::{AllocError, Global};
 use std::io::{Read, Write};
 use std::mem;
 
-// The number of lines that are written at once.
+// The maximum number of lines that are written at once.
 const BLOCK_LINES: usize = 256;
 
-/// `trace`: prints the lines of a run, or where they first differ from those of another trace. The header of
-/// that trace names the columns.
+/// `trace`: prints the lines of a run, or where they first differ from the lines of another trace.
+/// In a comparison, the header of the other trace determines the columns.
 pub(crate) fn trace<'a, F: FileAccess, I: Read, O: Write, E: Write>(
     system: &System<'_, F>,
     arguments: &TraceArguments<'a>,
@@ -60,8 +60,8 @@ pub(crate) fn trace<'a, F: FileAccess, I: Read, O: Write, E: Write>(
     }
 }
 
-/// The part of a run that a trace shows: its columns, the form of its lines, its first step, and the step at
-/// which it ends unless the machine stops before.
+/// The part of a run that a trace shows: its columns, the form of its lines, its first step, and
+/// its last step unless the machine stops earlier.
 #[derive(Drop)]
 pub(crate) struct Shown {
     pub(crate) columns: Columns,
@@ -70,8 +70,8 @@ pub(crate) struct Shown {
     pub(crate) to: u32,
 }
 
-// Returns what the arguments ask for, with these columns. If they name a first step after the last one, the
-// trace begins at the last one.
+// Returns the part of the run that the arguments specify, with these columns. If they specify a
+// first step after the last one, the trace begins at the last step.
 fn shown_by(arguments: &TraceArguments<'_>, columns: Columns) -> Shown
     ensures { result ≡ shown_by arguments.now columns }
 {
@@ -88,8 +88,8 @@ fn shown_by(arguments: &TraceArguments<'_>, columns: Columns) -> Shown
     }
 }
 
-// Returns the line of a trace that names its columns, and the text after it. The line above it may name the
-// machine.
+// Returns the header of a trace, which names its columns, and the text after it. A line that names
+// the machine may precede the header.
 fn split_header(trace: &[u8]) -> (&[u8], &[u8])
     ensures header { result.0.now ≡ header_of (below_machine (lines trace.now)) }
     ensures rest { lines result.1.now ≡ lines_after (below_machine (lines trace.now)) }
@@ -112,7 +112,7 @@ fn split_line(text: &[u8]) -> (&[u8], &[u8])
     first_line(text)
 }
 
-// Opens the session of a source, and shows the trace of its run.
+// Opens a session on a source, and shows the trace of its run.
 fn trace_source<'a, F: FileAccess, O: Write, E: Write>(
     system: &System<'_, F>,
     asked: AskedRun<'a>,
@@ -149,8 +149,8 @@ fn trace_source<'a, F: FileAccess, O: Write, E: Write>(
     }
 }
 
-// Prints the lines of the run of a source's image, or where they first differ from those of another trace, or
-// the faults if there is no image.
+// Prints the lines of the run of a source's image, or where they first differ from the lines of
+// another trace. If there is no image, prints the faults instead.
 fn show<'a, O: Write>(
     alloc: Global,
     bench: &mut Bench,
@@ -170,7 +170,7 @@ fn show<'a, O: Write>(
     }
 }
 
-// Returns the reason why there is no trace, if there is none.
+// Returns the reason why no trace can be shown, or None if it can.
 fn refusal_of(bench: &Bench, shown: &Shown) -> Option<Refusal>
     ensures { result ≡ trace_refusal bench.now.session shown.now }
 {
@@ -183,7 +183,7 @@ fn refusal_of(bench: &Bench, shown: &Shown) -> Option<Refusal>
     }
 }
 
-// Writes the trace, some lines at a time.
+// Writes the trace, `BLOCK_LINES` lines at a time.
 fn stream<'a, O: Write>(
     alloc: Global,
     bench: &mut Bench,
@@ -200,7 +200,7 @@ fn stream<'a, O: Write>(
         .columns
         .push_header_lines(shown.form, bench.quirks(), &mut text)?;
     loop {
-        // No step of the trace is past the last possible one, so only memory can be missing.
+        // No step of the trace is past `LAST_STEP`, so only a lack of memory can make this fail.
         let Ok(is_more) = bench.push_trace(&mut trace, &mut text, BLOCK_LINES) else {
             return Err(Failure::OutOfMemory);
         };
@@ -212,7 +212,7 @@ fn stream<'a, O: Write>(
     }
 }
 
-// Returns where the lines of a run first differ from those of another trace. The text is empty if they don't.
+// Returns where the lines of a run first differ from the lines of another trace, or an empty text if they agree.
 fn difference(
     alloc: Global,
     bench: &mut Bench,

@@ -1,4 +1,4 @@
-//! The messages on arguments that the program doesn't take.
+//! The messages about invalid arguments.
 
 use chip_arguments::commands_with;
 use chip_check::push_as_shown;
@@ -8,7 +8,7 @@ use clap::error::ErrorKind;
 use std::alloc::{AllocError, Global};
 use std::io::Write;
 
-/// The words to type instead of the commands of other programs.
+/// What to type instead of the commands of other programs.
 const OTHER_COMMANDS: &[(&str, &[&str])] = &[
     (
         "`chipbench asm` makes an image of a source",
@@ -41,7 +41,7 @@ const OTHER_COMMANDS: &[(&str, &[&str])] = &[
     ),
 ];
 
-/// The words to type instead of an argument of a command, or of every command if the name is empty.
+/// The advice on an argument that a command doesn't have. An empty command name stands for every command.
 const OTHER_ARGUMENTS: &[(&str, &str, &str)] = &[
     (
         "-o",
@@ -183,8 +183,8 @@ const OTHER_ARGUMENTS: &[(&str, &str, &str)] = &[
     ),
 ];
 
-/// If the program ended because of its arguments, prints clap's message about them. A tip of the program's
-/// own, if it has one, replaces clap's. `first` is the first argument.
+/// If the program ended because of invalid arguments, prints clap's message. If the program has a
+/// tip of its own, this tip replaces clap's. `first` is the first argument.
 pub(crate) fn tell_usage<E: Write>(
     alloc: Global,
     ended: &Result<Ending, Failure<'_>>,
@@ -199,8 +199,8 @@ pub(crate) fn tell_usage<E: Write>(
     }
 }
 
-// Returns the message on a fault of the arguments, with each line as `check` shows one, because an argument
-// may contain what a terminal takes for a command.
+// Returns the message about invalid arguments. Bytes that a terminal may misread are escaped, as in
+// `check`, because the message quotes an argument.
 fn shown_usage(alloc: Global, error: &Error, first: &str) -> Result<Vec<u8>, AllocError> {
     let text = usage_text(alloc, error, first)?;
     let mut shown = Vec::with_capacity(alloc, text.len())?;
@@ -215,7 +215,7 @@ fn shown_usage(alloc: Global, error: &Error, first: &str) -> Result<Vec<u8>, All
     Ok(shown)
 }
 
-// Returns the message on a fault of the arguments, with the program's own tip in place of clap's.
+// Returns the message about invalid arguments, with the program's own tip in place of clap's.
 fn usage_text(alloc: Global, error: &Error, first: &str) -> Result<Vec<u8>, AllocError> {
     let text = format!(in alloc; "{error}")?;
     let Some(tip) = tip_on(alloc, error.kind(), text.as_str(), first)? else {
@@ -225,7 +225,7 @@ fn usage_text(alloc: Global, error: &Error, first: &str) -> Result<Vec<u8>, Allo
         .as_str()
         .split_once("\n\n")
         .unwrap_or((text.as_str(), ""));
-    // If clap suggests a similar option, its usage shows that option, so both are left out.
+    // If clap suggests a similar option, its usage line shows that option, so the suggestion and the line are omitted.
     let rest = match below.split_once("Usage: ") {
         Some((tips, usage)) if !tips.contains("similar argument") => usage,
         _ => "",
@@ -248,7 +248,7 @@ fn usage_text(alloc: Global, error: &Error, first: &str) -> Result<Vec<u8>, Allo
     parts.concat(alloc)
 }
 
-// Returns the program's own tip for a fault of this kind, if it has one.
+// Returns the program's own tip for an error of this kind, if there is one.
 fn tip_on(
     alloc: Global,
     kind: ErrorKind,
@@ -279,8 +279,8 @@ fn quoted_in(text: &str) -> Option<&str> {
     Some(word)
 }
 
-// Returns what to type instead of an argument that the command of the first word doesn't take, if that is
-// known.
+// Returns what to type instead of an argument that the command named by the first argument doesn't
+// accept, if that is known.
 fn tip_on_argument(alloc: Global, word: &str, first: &str) -> Result<Option<Vec<u8>>, AllocError> {
     for (argument, command, sentence) in OTHER_ARGUMENTS {
         let is_word = word.as_bytes() == argument.as_bytes();
@@ -310,7 +310,7 @@ fn tip_on_argument(alloc: Global, word: &str, first: &str) -> Result<Option<Vec<
     Ok(Some(tip.into_bytes()))
 }
 
-// Returns what to type instead of a command of other programs, if that is known.
+// Returns what to type instead of a command that other programs have, if that is known.
 fn sentence_on_command(word: &str) -> Option<&'static str> {
     for (sentence, others) in OTHER_COMMANDS {
         if others.iter().any(|other| word == *other) {

@@ -1,4 +1,4 @@
--- The definitions that the program of calls needs.
+-- The definitions that the program of calls uses.
 -- Source: chosen by this project.
---     Toy    the small machine on which a replay is tried
+--     Toy    the small machine that tests a replay
 pub mod Toy

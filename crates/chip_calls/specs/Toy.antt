@@ -1,4 +1,4 @@
--- The small machine on which a replay is tried.
+-- The small machine that tests a replay.
 -- Source: chosen by this project.
 --     ToyState, toy_after, toy_touches     the machine, whose step adds the byte at the counter to a
 --                                          sum and 1 to the counter
@@ -40,7 +40,7 @@ toy_after s keys tick =
       sum = (s.sum + slice_index s.bytes (s.counter % memory_size)) % 256;
     }
 
--- the frame law for a step of two states that agree off a set
+-- the frame law for a step of two states that agree outside a set
 abbrev pub ToyFramed : (ℕ → Bool) → ℕ → Bool → ToyState → ToyState → Type 0
 ToyFramed set keys tick a b =
     IsFramed toy_memory toy_with_memory (λ s. toy_after s keys tick) toy_touches set a b

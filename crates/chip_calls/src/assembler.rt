@@ -1,12 +1,12 @@
 //! Commands about a whole source, which chip_asm answers.
 //!
-//! - `ins N LINE`, `rep N LINE`, `del N`: edits, answered with `ok` or the refusal.
-//! - `lines`, `parsed`, `work`: how many lines there are, how many were read, and how many were
-//!   read and encoded. `encoded N`: whether at most N lines were encoded.
-//! - `image`: the bytes of the image in hexadecimal, `empty` or `none`; for an image of more than 32
-//!   bytes, how many bytes there are and how many of them are not 0.
+//! - `ins N LINE`, `rep N LINE`, `del N`: edits. The answer is `ok` or the refusal.
+//! - `lines`, `parsed`, `work`: how many lines there are, how many lines were read, and how many
+//!   were read and encoded. `encoded N`: whether at most N lines were encoded.
+//! - `image`: the bytes of the image in hexadecimal, `empty` or `none`. For an image of more than 32
+//!   bytes, the answer is the number of bytes and the number of bytes that aren't 0.
 //! - `fault N`, `faults`: the fault of a line, or all faults with their lines. `symbol NAME`, `symbols`:
-//!   the value and the line of a name, or all names with theirs. `listing`: the listing.
+//!   the value and the line of a name, or all names with their values and lines. `listing`: the listing.
 //! - `line N`: the number, address and size of a line, whether it is active, its bytes, its value, the
 //!   value that it defines, its fault and its text.
 
@@ -17,7 +17,7 @@ use chip_asm::{LineView, OpenError, Refusal, Source, Symbol};
 use chip_lang::Fault;
 use std::alloc::{AllocError, Global};
 
-/// Opens a source. For `open-bytes` the source takes the bytes themselves, otherwise a copy of them.
+/// Opens a source. For `open-bytes`, the source takes over the bytes. Otherwise it copies them.
 pub(crate) fn opened(alloc: Global, word: &str, text: &[u8]) -> Result<Box<Source>, OpenError> {
     let source = if word == "open-bytes" {
         Source::open_bytes(alloc, Vec::from_slice(alloc, text)?)?
@@ -27,12 +27,12 @@ pub(crate) fn opened(alloc: Global, word: &str, text: &[u8]) -> Result<Box<Sourc
     Ok(boxed(alloc, source)?)
 }
 
-/// Returns a source in a box, so that each caller drops it by one call.
+/// Returns a source in a box, so that each caller drops the source with one call.
 pub(crate) fn boxed(alloc: Global, source: Source) -> Result<Box<Source>, AllocError> {
     Ok(Box::new(alloc, source)?)
 }
 
-/// Makes the edit of a command.
+/// Makes the edit that a command states.
 pub(crate) fn edited(
     alloc: Global,
     source: &mut Source,
@@ -50,7 +50,7 @@ pub(crate) fn edited(
     }
 }
 
-/// Makes an edit, and adds `ok` or the refusal to the answer.
+/// Makes an edit, and appends `ok` or the refusal to the answer.
 pub(crate) fn edit(
     alloc: Global,
     out: &mut Reply,

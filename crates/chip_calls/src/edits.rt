@@ -1,6 +1,6 @@
-//! `edits SEED COUNT` makes COUNT generated edits, beginning with a source without lines. After each
-//! edit, all answers have to be those of the same lines opened anew. The command answers `ok` with the
-//! number of edits of each kind, or the first edit after which an answer differs.
+//! `edits SEED COUNT` makes COUNT generated edits, starting with a source without lines. After each
+//! edit, all answers must be those of a new source with the same lines. The command answers `ok` with
+//! the number of edits of each kind, or the first edit after which an answer differs.
 
 use crate::assembler::{boxed, edited, opened};
 use crate::output::{Refused, Reply};
@@ -8,12 +8,12 @@ use crate::text::{number, split_word};
 use chip_asm::Source;
 use std::alloc::{AllocError, Global};
 
-/// The number of lines from which on edits insert lines only at the end. In a longer source, all other
-/// edits delete a line.
+/// A source with this many lines or more gets new lines only at its end. If a source has more lines,
+/// every edit that isn't at the end deletes a line.
 const MOST_LINES: usize = 24;
 
-/// The lines of edits: 16 that are data, instructions or without effect, and then 16 that move other
-/// lines, give names, or open and close blocks.
+/// The lines that edits use: 16 lines that are data, instructions or without effect, and then 16
+/// lines that move other lines, define names, or open and close blocks.
 const LINES: &[&str] = &[
     "",
     "; a comment",
@@ -55,7 +55,7 @@ pub(crate) fn next(state: &mut u32) -> u32 {
     *state / 65_536
 }
 
-/// Returns some line of `LINES`; three times in four, one of the first 16.
+/// Returns a generated line of `LINES`, which is one of the first 16 three times out of four.
 fn some_line(state: &mut u32) -> &'static str {
     let pick = next(state) % 16;
     let is_moving = next(state) % 4 == 0;
@@ -63,7 +63,7 @@ fn some_line(state: &mut u32) -> &'static str {
     LINES.get(place as usize).copied().unwrap_or("")
 }
 
-/// Adds all answers of a source except for its work, one after another.
+/// Appends all answers of a source except for its work.
 fn push_answers(alloc: Global, out: &mut Reply, source: &Source) -> Result<(), AllocError> {
     out.debug(&source.faults(alloc)?);
     out.debug(&source.symbols(alloc)?);
@@ -72,7 +72,7 @@ fn push_answers(alloc: Global, out: &mut Reply, source: &Source) -> Result<(), A
     Ok(())
 }
 
-/// Whether a source gives the answers that its lines give when they are opened anew.
+/// Whether a source returns the same answers as a new source with the same lines.
 fn answers_alike(alloc: Global, source: &Source, lines: &[&str]) -> Result<bool, AllocError> {
     let mut text = Reply::new(alloc);
     for line in lines {
@@ -87,7 +87,7 @@ fn answers_alike(alloc: Global, source: &Source, lines: &[&str]) -> Result<bool,
     Ok(ours.is_whole && ours.text == theirs.text)
 }
 
-/// A source, its lines, and the numbers of edits of each kind that were made.
+/// A source, its lines, and the number of edits of each kind so far.
 #[derive(Drop)]
 struct Edited {
     source: Box<Source>,
@@ -98,7 +98,7 @@ struct Edited {
 }
 
 impl Edited {
-    /// Makes some edit in the source and in its lines, and returns whether the source accepted it.
+    /// Makes a generated edit in the source and in its lines, and returns whether the source accepted it.
     fn edit_once(&mut self, alloc: Global, state: &mut u32) -> Result<bool, AllocError> {
         let line = some_line(state);
         let count = self.lines.len();
@@ -116,7 +116,7 @@ impl Edited {
         Ok(edited(alloc, &mut *self.source, word, number, line.as_bytes()).is_ok())
     }
 
-    /// Makes the edit of a command in the lines, and counts it.
+    /// Makes the edit that a command states in the lines, and counts the edit.
     fn edit_lines(
         &mut self,
         word: &str,
@@ -145,8 +145,8 @@ impl Edited {
         Ok(())
     }
 
-    /// Makes `count` edits, and returns the number, from 0, of the first one that is refused or after which
-    /// an answer differs.
+    /// Makes `count` edits, and returns the number, counted from 0, of the first edit that is refused or
+    /// after which an answer differs.
     fn first_difference(
         &mut self,
         alloc: Global,

@@ -1,9 +1,9 @@
-//! Commands about all states that a machine may come to, which chip_facts answers.
+//! Commands about all states that a machine may reach, which chip_facts answers.
 //!
-//! - `facts MACHINE BYTES`: the facts about all states that a machine with this image may come to: the
+//! - `facts MACHINE BYTES`: the facts about all states that a machine with this image may reach: the
 //!   address and the cause of each stop that isn't excluded, and the number of addresses at which steps may
-//!   be made. MACHINE is as in `start`. The answer is `unknown` if no facts are found.
-//! - `executed MACHINE BYTES`: the addresses at which steps may be made, or `unknown`.
+//!   be executed. MACHINE is as in `start`. The answer is `unknown` if no facts are found.
+//! - `executed MACHINE BYTES`: the addresses at which steps may be executed, or `unknown`.
 
 use crate::machine::quirks_named;
 use crate::output::{Refused, Reply};
@@ -12,7 +12,7 @@ use chip_facts::{Facts, facts_of};
 use chip_lang::limits::IMAGE_BYTES;
 use std::alloc::Global;
 
-/// The greatest number of steps that the search makes.
+/// The maximum number of steps that the search makes.
 const MOST_STEPS: usize = 400_000;
 
 /// Answers a command.

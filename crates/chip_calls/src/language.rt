@@ -1,15 +1,15 @@
-//! Commands about one line of a source, which chip_lang answers without a definition of any name.
+//! Commands about one line of a source, which chip_lang answers without the definition of any name.
 //!
 //! A LINE is the rest of the command, or `@text` for the built text.
 //!
 //! - `read LINE`: the name that the line defines (`-` for none), the kind of its statement, and its
-//!   value, name or code; or the fault of its reading. `read-length LINE`: the length of that answer.
-//! - `tokens LINE`: each token with the place of its first byte and the place after its last one.
-//! - `defines LINE`, `name PLACE LINE`: the name that the line defines, and the name that it uses at a
-//!   place.
-//! - `constant LINE`: the value of an EQU without names. `nothing LINE`: how many lines are read if
-//!   only lines that say nothing are: 1 or 0. `copy LINE`: a copy of the bytes of the line.
-//! - `place FAULT LINE`: the bytes of the line at which such a fault lies. `mnemonic LINE`: the mnemonic
+//!   value, name or code; or the fault of the line. `read-length LINE`: the length of that answer.
+//! - `tokens LINE`: each token with the index of its first byte and the index after its last byte.
+//! - `defines LINE`, `name PLACE LINE`: the name that the line defines, and the name that the line
+//!   uses at a place.
+//! - `constant LINE`: the value of an EQU without names. `nothing LINE`: 1 if the line is blank or
+//!   only a comment, and otherwise 0. `copy LINE`: a copy of the bytes of the line.
+//! - `place FAULT LINE`: the bytes of the line that this fault points at. `mnemonic LINE`: the mnemonic
 //!   of the line.
 //! - `sentence FAULT`: the sentence that describes a fault.
 
@@ -60,13 +60,13 @@ pub(crate) fn answer(
     Ok(())
 }
 
-/// Returns a line as it is read, in a box, so that each caller drops it by one call.
+/// Returns a parsed line in a box, so that each caller drops the line with one call.
 pub(crate) fn read(alloc: Global, meter: &mut Meter, line: &[u8]) -> Result<Box<Line>, AllocError> {
     let line = read_line(alloc, meter, line)?;
     Ok(Box::new(alloc, line)?)
 }
 
-/// Adds the answer to a command about a line that was read.
+/// Appends the answer to a command about a parsed line.
 fn push_said(alloc: Global, out: &mut Reply, word: &str, line: &Line) -> Result<(), AllocError> {
     match word {
         "read" => push_line(alloc, out, line)?,
@@ -85,7 +85,7 @@ pub(crate) fn push_fault(out: &mut Reply, fault: Fault) {
     out.show(&format_args!("F{}", fault.number()));
 }
 
-/// Adds the label, the kind of the statement, and the value, name or code of its operand; or the fault.
+/// Appends the label, the kind of the statement, and the value, name or code of its operand; or the fault.
 fn push_line(alloc: Global, out: &mut Reply, line: &Line) -> Result<(), AllocError> {
     match line {
         Line::Bad(fault) => push_fault(out, *fault),
@@ -129,7 +129,7 @@ fn kind_of(body: &Body) -> &'static str {
     }
 }
 
-/// Adds the value, name or code of the operand of a statement, or its fault.
+/// Appends the value, name or code of the operand of a statement, or the operand's fault.
 fn push_operand(
     alloc: Global,
     out: &mut Reply,
@@ -178,7 +178,7 @@ fn constant_of(line: &Line) -> Option<i32> {
     }
 }
 
-/// Returns how many lines `read_nothing` reads: 1 for a line that says nothing, and 0 for any other.
+/// Returns how many lines `read_nothing` reads: 1 for a blank line or a comment, and 0 for any other line.
 fn count_of_nothing(bytes: &[u8]) -> u64 {
     let mut meter = Meter::new();
     if read_nothing(&mut meter, bytes) {
@@ -196,7 +196,7 @@ fn push_mnemonic(alloc: Global, out: &mut Reply, bytes: &[u8]) -> Result<(), All
     Ok(())
 }
 
-/// The faults, each at the place of its number, counted from 1.
+/// The faults in the order of their numbers, starting with F1.
 const FAULTS: &[Fault] = &[
     Fault::BadCharacter,
     Fault::UnfinishedString,
@@ -217,7 +217,7 @@ const FAULTS: &[Fault] = &[
     Fault::NotInProfile,
 ];
 
-/// Returns the fault of a code such as `F4`, and fails if there is none.
+/// Returns the fault with a code such as `F4`, and fails if there is none.
 fn fault_of(name: &str) -> Result<Fault, Refused> {
     let place = match name.strip_prefix("F") {
         Some(digits) => number(digits)?.wrapping_sub(1),
@@ -229,7 +229,7 @@ fn fault_of(name: &str) -> Result<Fault, Refused> {
     }
 }
 
-/// Adds the place of a fault in a line: the place of its first byte, and the place after its last one.
+/// Appends the place of a fault in a line: the index of its first byte, and the index after its last byte.
 fn push_place(alloc: Global, out: &mut Reply, built: &[u8], rest: &str) -> Result<(), Refused> {
     let (fault, line) = split_word(rest);
     let span = fault_span(alloc, line_bytes(built, line), fault_of(fault)?)?;

@@ -1,22 +1,22 @@
-//! Commands that chip_machine carries out or answers. Numbers are hexadecimal, except for those of
-//! steps, rows, places and counts.
+//! Commands that chip_machine executes or answers. Numbers are hexadecimal, except for step
+//! numbers, rows, places and counts.
 //!
 //! - `start MACHINE BYTES`: starts a machine with this image and the tape a5 5a. MACHINE is a profile, or
-//!   a profile and choices of quirks, with commas between them. `start-zeros IMAGE TAPE`: starts a machine
-//!   with IMAGE zeros as its image and TAPE zeros as its tape. Both answer `ok` or the error.
-//! - `run COUNT [KEYS]`: makes COUNT steps with these keys down; each tenth step ticks. `step`,
-//!   `step-tick`: makes one step with no key down, without or with a tick; `touches` and `touch-count`
-//!   then ask for the addresses that it touched. `steps FROM COUNT KEYS`: makes COUNT steps at once; the
-//!   first has the number FROM, and each tenth ticks. `first-touch ADDRESS` then asks which step touched
-//!   the address first.
-//! - `forgotten PARTS [KEYS]`: what is forgotten after the next step with these keys down, if PARTS are
-//!   forgotten before it: `i` for I, `near` for I if it is known to point at digits, `screen`, the digit of
-//!   a register, or `all`. If the step needs some of them, the answer is `needs` with these.
+//!   a profile and choices of quirks, separated by commas. `start-zeros IMAGE TAPE`: starts a machine with
+//!   IMAGE zeros as its image and TAPE zeros as its tape. Both answer `ok` or the error.
+//! - `run COUNT [KEYS]`: executes COUNT steps with these keys down, and every tenth step ticks. `step`,
+//!   `step-tick`: executes one step with no key down, without or with a tick. Then `touches` and
+//!   `touch-count` query the addresses that the step touched. `steps FROM COUNT KEYS`: executes COUNT
+//!   steps at once. The first step has the number FROM, and every tenth step ticks. Then
+//!   `first-touch ADDRESS` queries which step touched the address first.
+//! - `forgotten PARTS [KEYS]`: the parts that are forgotten after the next step with these keys down, if PARTS are
+//!   forgotten before the step: `i` for I, `near` for I if it is known to point at digits, `screen`, the digit of
+//!   a register, or `all`. If the step needs some of the parts, the answer is `needs` with these parts.
 //! - `poke ADDRESS BYTE`, `exchange ADDRESS OLD NEW`: changes bytes of the memory.
-//! - `keep`: keeps a copy of the machine. `swap`: goes on with the kept machine, and keeps this one.
-//!   `take`: takes the state of the kept machine. `same-memory`: whether both have the same memory.
-//! - `touch-add ADDRESS`, `touch-clear`, `touch-empty`: changes or asks for the list of touched addresses
-//!   alone.
+//! - `keep`: keeps a copy of the machine. `swap`: swaps the machine and the kept machine. `take`:
+//!   takes the state of the kept machine. `same-memory`: whether both machines have the same memory.
+//! - `touch-add ADDRESS`, `touch-clear`, `touch-empty`: changes or queries only the list of touched
+//!   addresses.
 
 use crate::output::{Refused, Reply};
 use crate::state;
@@ -32,7 +32,7 @@ use std::mem;
 pub(crate) struct Machines {
     machine: Option<Box<Machine>>,
     kept: Option<Box<Machine>>,
-    /// The number of steps that `run` made since the start.
+    /// The number of steps that `run` executed since the start.
     steps: u32,
     touch: Touch,
     first_touch: Vec<u32>,
@@ -74,7 +74,7 @@ impl Machines {
         Ok(())
     }
 
-    /// Answers a command that the machine carries out or answers.
+    /// Answers a command that the machine executes or answers.
     fn answer_machine(
         &mut self,
         alloc: Global,
@@ -153,12 +153,12 @@ impl Machines {
     }
 }
 
-/// Returns the keys that are down: none if the command names none.
+/// Returns the keys that are down: no keys if the command names none.
 fn keys_down(keys: &str) -> Result<u16, Refused> {
     hex_number(if keys.is_empty() { "0" } else { keys })
 }
 
-/// Makes as many steps as the command says.
+/// Executes as many steps as the command states.
 fn run(
     machine: &mut Machine,
     touch: &mut Touch,
@@ -174,7 +174,7 @@ fn run(
     Ok(())
 }
 
-/// Makes several steps at once.
+/// Executes several steps at once.
 fn make_steps(machine: &mut Machine, first_touch: &mut [u32], rest: &str) -> Result<(), Refused> {
     let (from, rest) = split_word(rest);
     let (count, keys) = split_word(rest);
@@ -224,7 +224,7 @@ fn push_first_touch(out: &mut Reply, first_touch: &[u32], address: u16) {
     }
 }
 
-/// Returns the parts that words with commas between them name.
+/// Returns the parts that words name, separated by commas.
 fn parts_of(words: &str) -> Result<Forgotten, Refused> {
     let mut parts = Forgotten::nothing();
     for word in words.split(',') {
@@ -248,7 +248,7 @@ fn register_of(word: &str) -> Result<Reg, Refused> {
     }
 }
 
-/// Adds the parts that are forgotten after the next step, or those that the step needs.
+/// Appends the parts that are forgotten after the next step, or the parts that the step needs.
 fn push_forgotten(out: &mut Reply, machine: &mut Machine, rest: &str) -> Result<(), Refused> {
     let (words, keys) = split_word(rest);
     match machine.forgotten_after(parts_of(words)?, keys_down(keys)?) {
@@ -261,7 +261,7 @@ fn push_forgotten(out: &mut Reply, machine: &mut Machine, rest: &str) -> Result<
     Ok(())
 }
 
-/// Adds the names of some parts.
+/// Appends the names of the given parts.
 fn push_parts(out: &mut Reply, parts: Forgotten) {
     if parts.is_nothing() {
         out.text("nothing");
@@ -287,8 +287,8 @@ fn push_parts(out: &mut Reply, parts: Forgotten) {
     }
 }
 
-/// Returns the quirks of a profile, except for the choices that follow its name, or `None` if there is
-/// no such profile or the choices are wrong.
+/// Returns the quirks of a profile, changed by the choices that follow its name, or `None` if there is
+/// no such profile or the choices are invalid.
 pub(crate) fn quirks_named(machine: &str) -> Option<Quirks> {
     match machine.split_once(',') {
         Some((name, list)) => Profile::from_name(name)?

@@ -1,11 +1,11 @@
 //! Calls of chip_lang, chip_asm, chip_machine, chip_replay and chip_facts, as text: each line of the standard
 //! input is a command, and the program prints its answer. The modules list the commands.
 //!
-//! - `text LINE`, `text-hex BYTES`: makes this line, or these bytes in hexadecimal, the built text.
-//!   `add COUNT LINE`, `add-hex COUNT BYTES`: adds the line or the bytes to the built text COUNT times.
-//!   In a command that ends with a line, `@text` stands for the built text.
-//! - `source`: makes the lines up to `end` the built text, and opens it. `open`, `open-bytes`: opens
-//!   the built text, from a copy of its bytes or from the bytes themselves. All answer `ok` or the error.
+//! - `text LINE`, `text-hex BYTES`: sets the built text to this line, or to these bytes in hexadecimal.
+//!   `add COUNT LINE`, `add-hex COUNT BYTES`: appends the line or the bytes to the built text COUNT
+//!   times. In a command that ends with a line, `@text` means the built text.
+//! - `source`: sets the built text to the lines up to `end`, and opens it. `open`, `open-bytes`: opens the
+//!   built text, from a copy of its bytes or from the bytes themselves. All three answer `ok` or the error.
 #![tactic(auto)]
 
 mod assembler;
@@ -30,12 +30,12 @@ use std::alloc::{AllocError, Global};
 use std::io;
 use std::io::{BufRead, BufReader};
 
-/// The state that the commands so far made.
+/// The state after the commands so far.
 #[derive(Drop)]
 struct Calls {
     alloc: Global,
     built: Vec<u8>,
-    /// Whether the next lines are those of a source, up to `end`.
+    /// Whether the next lines belong to a source, up to `end`.
     is_source: bool,
     source: Box<Source>,
     machines: Machines,
@@ -96,7 +96,7 @@ impl Calls {
         Ok(())
     }
 
-    /// Adds a line, or bytes in hexadecimal, to the built text `count` times.
+    /// Appends a line, or bytes in hexadecimal, to the built text `count` times.
     fn add(&mut self, word: &str, count: u32, line: &str) -> Result<(), Refused> {
         if !word.ends_with("-hex") {
             return Ok(add_bytes(&mut self.built, count, line.as_bytes())?);
@@ -116,7 +116,7 @@ impl Calls {
         }
     }
 
-    /// Asks each layer in turn, until one answers the command.
+    /// Passes the command to each layer in turn, until a layer answers it.
     fn ask(&mut self, out: &mut Reply, word: &str, rest: &str) -> Result<(), Refused> {
         match language::answer(self.alloc, out, &self.built, word, rest) {
             Err(Refused::BadCommand) => (),

@@ -6,7 +6,7 @@ use std::fmt::{Debug, Display};
 /// Why a command has no answer.
 #[derive(Drop)]
 pub(crate) enum Refused {
-    /// The layer has no such command, or the words of the command don't fit.
+    /// The layer has no such command, or the arguments of the command are invalid.
     BadCommand,
     OutOfMemory,
 }
@@ -33,25 +33,25 @@ impl Reply {
         }
     }
 
-    /// Adds a text.
+    /// Appends a text.
     pub(crate) fn text(&mut self, text: &str) {
         let added = self.text.push_str(text);
         self.is_whole &= added.is_ok();
     }
 
-    /// Adds the text that `Display` shows for a value, such as one of `format_args!`.
+    /// Appends the text that `Display` shows for a value, such as the value of `format_args!`.
     pub(crate) fn show<T: Display>(&mut self, value: &T) {
         let added = write!(self.text, "{value}");
         self.is_whole &= added.is_ok();
     }
 
-    /// Adds the text that `Debug` shows for a value.
+    /// Appends the text that `Debug` shows for a value.
     pub(crate) fn debug<T: Debug>(&mut self, value: &T) {
         let added = write!(self.text, "{value:?}");
         self.is_whole &= added.is_ok();
     }
 
-    /// Adds numbers with blanks between them.
+    /// Appends numbers with blanks between them.
     pub(crate) fn numbers(&mut self, numbers: &[u64]) {
         let mut blank = "";
         for number in numbers {
@@ -60,14 +60,14 @@ impl Reply {
         }
     }
 
-    /// Adds bytes in hexadecimal.
+    /// Appends bytes in hexadecimal.
     pub(crate) fn bytes(&mut self, bytes: &[u8]) {
         for byte in bytes {
             self.show(&format_args!("{byte:02x}"));
         }
     }
 
-    /// Adds bytes as characters.
+    /// Appends bytes as characters.
     pub(crate) fn characters(&mut self, bytes: &[u8]) {
         for byte in bytes {
             let added = self.text.push(char::from(*byte));
@@ -75,7 +75,7 @@ impl Reply {
         }
     }
 
-    /// Adds a name, or `none`.
+    /// Appends a name, or `none`.
     pub(crate) fn name(&mut self, name: Option<&[u8]>) {
         self.characters(name.unwrap_or(b"none"));
     }

@@ -1,16 +1,16 @@
 //! Commands about key events and about the replay of a small machine, which chip_replay answers.
 //!
-//! - `keys`: begins anew without key events. `toy SPACING`: makes the replay of a small machine whose
-//!   memory has only zeros, at the rate 10. `toy-image WAY`: makes such a replay with the spacing 1000,
-//!   asks for its step 5000 and then gives it another image: `whole` and `within` make the first byte 5,
-//!   `within` by saying that only this byte changed, and `same` changes no byte.
+//! - `keys`: starts again without key events. `toy SPACING`: builds the replay of a small machine whose
+//!   memory contains only zeros, at the rate 10. `toy-image WAY`: builds such a replay with the spacing
+//!   1000, queries its step 5000 and then changes its image. `whole` and `within` set the first byte to
+//!   5, and `within` also states that only this byte changed. `same` changes no byte.
 //! - `insert STEP KEY down|up`, `replace STEP KEY down|up`, `delete STEP KEY`: edits of the key
-//!   events, answered with `ok` or the refusal. `fill STEP KEY down|up` inserts an event at each
+//!   events. The answer is `ok` or the refusal. `fill STEP KEY down|up` inserts an event at each
 //!   step from 1 to STEP. `held STEP`: the keys that are down, as a number.
-//! - `at STEP`: the sum of the small machine at a step; `at-each STEP` asks for each step up to that one.
-//!   `counts`: how many steps the replay made, the last step that is known, and how many checkpoints are
-//!   kept. `made`: how many steps the machine and its copies made. `is-counted`: whether the replay
-//!   counts as many.
+//! - `at STEP`: the sum of the small machine at a step. `at-each STEP` queries each step up to STEP.
+//!   `counts`: the number of steps that the replay executed, the last known step, and the number of kept
+//!   checkpoints. `made`: the number of steps that the machine and its copies executed. `is-counted`:
+//!   whether the replay counts the same number.
 
 ghost use Rattle.std.specs.Prelude.{◌≡◌, ◌≤◌, [], drop, IfOk};
 ghost use Rattle.chip_replay.specs.Image.{padded};
@@ -24,14 +24,14 @@ use std::alloc::{AllocError, Global};
 use std::cell::Cell;
 use std::rc::Rc;
 
-/// The replay of a small machine, and the number of steps that the machine and its copies made.
+/// The replay of a small machine, and the number of steps that the machine and its copies executed.
 #[derive(Drop)]
 struct ToyRun {
     replay: Replay<Toy>,
     made: Rc<Cell<u64>>,
 }
 
-/// Key events, and the replay of a small machine. If there is a replay, commands are about its key events.
+/// Key events, and the replay of a small machine. If there is a replay, commands apply to its key events.
 #[derive(Drop)]
 pub(crate) struct Run {
     keys: Keys,
@@ -65,7 +65,7 @@ impl Run {
         Ok(())
     }
 
-    /// Makes an edit, and adds `ok` or the refusal to the answer.
+    /// Makes an edit, and appends `ok` or the refusal to the answer.
     fn edit(&mut self, out: &mut Reply, word: &str, rest: &str) -> Result<(), Refused> {
         let (step, rest) = split_word(rest);
         let (key, state) = split_word(rest);
@@ -81,7 +81,7 @@ impl Run {
         Ok(())
     }
 
-    /// Adds the keys that are down at a step, as a number.
+    /// Appends the keys that are down at a step, as a number.
     fn push_held(&self, out: &mut Reply, step: u32) {
         let keys = match &self.toy {
             None => &self.keys,
@@ -145,7 +145,7 @@ pub(crate) fn edit_replay<M: Traced>(
     }
 }
 
-/// Adds the sum at the last of these steps, or the first error at one of them.
+/// Appends the sum at the last of these steps, or the first error at one of the steps.
 fn push_sum(out: &mut Reply, replay: &mut Replay<Toy>, first: u32, last: u32) {
     let mut sum = 0;
     for step in first..=last {
@@ -157,8 +157,8 @@ fn push_sum(out: &mut Reply, replay: &mut Replay<Toy>, first: u32, last: u32) {
     out.show(&sum);
 }
 
-/// Returns the replay of a small machine with this spacing of checkpoints, or the nearest spacing that is
-/// allowed.
+/// Returns the replay of a small machine with this spacing of checkpoints, or with the nearest valid
+/// spacing.
 fn toy_run(alloc: Global, spacing: u32) -> Result<Box<ToyRun>, AllocError> {
     let made = Rc::new(alloc, Cell::new(0))?;
     let toy = Toy::new(alloc, made.clone()?)?;
@@ -167,7 +167,7 @@ fn toy_run(alloc: Global, spacing: u32) -> Result<Box<ToyRun>, AllocError> {
     Ok(Box::new(alloc, ToyRun { replay, made })?)
 }
 
-/// Returns a replay that was asked for the step 5000, and fails if the sum there is not 0.
+/// Returns a replay that was queried at step 5000, and fails if the sum there is not 0.
 fn asked(alloc: Global, made: Rc<Cell<u64>>) -> Result<Replay<Toy>, AllocError>
     ensures { IfOk result (λ replay. drop image_start replay.start.bytes ≡ padded []) }
 {
@@ -179,7 +179,7 @@ fn asked(alloc: Global, made: Rc<Cell<u64>>) -> Result<Replay<Toy>, AllocError>
     }
 }
 
-/// Changes the image of a replay, which has no bytes, in one of the three ways of `toy-image`.
+/// Changes the empty image of a replay in one of the three ways of `toy-image`.
 fn change_image(replay: &mut Replay<Toy>, way: &str)
     requires { drop image_start replay.old.start.bytes ≡ padded [] }
 {
@@ -190,7 +190,7 @@ fn change_image(replay: &mut Replay<Toy>, way: &str)
     }
 }
 
-/// Returns a replay that was asked for a step and then got another image.
+/// Returns a replay that was queried at a step and whose image was then changed.
 fn toy_with_image(alloc: Global, way: &str) -> Result<Box<ToyRun>, AllocError> {
     let made = Rc::new(alloc, Cell::new(0))?;
     let mut replay = asked(alloc, made.clone()?)?;

@@ -1,7 +1,7 @@
-//! `runs SEED COUNT` makes replays of COUNT generated programs, whose seeds are SEED and the numbers
-//! after it. Each replay is asked about steps in any order, with edits of key events between the
-//! questions. Each answer has to be the state of a bare machine that makes every step from the start.
-//! The command answers `ok` with the count, or the first difference.
+//! `runs SEED COUNT` builds replays of COUNT generated programs, whose seeds are SEED and the numbers
+//! after SEED. The command queries each replay at steps in any order, with edits of key events
+//! between the queries. Each answer must be the state of a machine that executes every step from the
+//! start. The command answers `ok` with the count, or the first difference.
 
 use crate::edits::next;
 use crate::output::{Refused, Reply};
@@ -12,21 +12,21 @@ use chip_machine::{Machine, Profile, Touch};
 use chip_replay::{LEAST_SPACING, Replay};
 use std::alloc::{AllocError, Global};
 
-/// How many times each program gets some edits and then a question.
+/// The number of times that each program gets some edits and then a query.
 const COMMANDS: u32 = 12;
 
-/// The first step of a question is below this one, which is past a checkpoint.
+/// The first step of a query is below this number, which is past a checkpoint.
 const STEPS: u32 = 2000;
 
-/// The number of successive steps that a question is about.
+/// The number of successive steps in a query.
 const NEAR: u32 = 4;
 
-/// The number of keys that have events. Events are at steps that are multiples of `APART`.
+/// The number of keys that have events. The steps of events are multiples of `APART`.
 const KEYS: u32 = 4;
 
 const APART: u32 = 16;
 
-/// A replay, and the parts that it was made from, with the edits so far.
+/// A replay, and the parts that it was built from, with the edits so far.
 #[derive(Drop)]
 struct Run {
     start: Box<Machine>,
@@ -36,9 +36,9 @@ struct Run {
     replay: Replay<Machine>,
 }
 
-/// The words of each kind: the first one, the distance from one to the next, how many there are, and the
-/// distance from those of one register to those of the next of 16. Most words are instructions that stay
-/// in the program, write into it or read the keys.
+/// The words of each kind: the first word, the distance from one word to the next, the number of words,
+/// and the distance from the words of one register to those of the next. There are 16 registers. Most
+/// words are instructions that stay in the program, write into it or read the keys.
 const WORDS: &[(u32, u32, u32, u32)] = &[
     (0x6000, 1, 0x1000, 0),
     (0x6000, 1, 0x1000, 0),
@@ -62,7 +62,7 @@ const WORDS: &[(u32, u32, u32, u32)] = &[
     (0xf007, 0x100, 16, 0),
 ];
 
-/// Returns a word of a kind, with these digits.
+/// Returns a word of a kind, chosen by these digits.
 fn word_of(kind: u32, digits: u32) -> u16 {
     let (first, apart, count, register) = match WORDS.get((kind % 20) as usize) {
         Some(words) => *words,
@@ -101,7 +101,7 @@ fn opened(alloc: Global, state: &mut u32) -> Result<Box<Run>, AllocError> {
     Ok(Box::new(alloc, run)?)
 }
 
-/// Returns the keys that are down in a step, from those that were down in the step before it.
+/// Returns the keys that are down in a step, given the keys that were down in the step before it.
 fn keys_in_step(events: &[Option<bool>], step: u32, before: u16) -> u16 {
     let mut keys = before;
     if step % APART == 0 {
@@ -147,8 +147,8 @@ fn counts(machine: &Machine) -> [u64; 7] {
     ]
 }
 
-/// Whether, for `NEAR` steps from `first` on, the replay gives the states of a machine that makes each
-/// step.
+/// Whether, for `NEAR` steps from `first` on, the replay returns the states of a machine that executes
+/// each step.
 fn answers_from(run: &mut Run, first: u32) -> Result<bool, AllocError> {
     let mut machine = run.start.copy_of()?;
     let mut touch = Touch::new();
@@ -163,7 +163,7 @@ fn answers_from(run: &mut Run, first: u32) -> Result<bool, AllocError> {
     Ok(true)
 }
 
-/// Whether the replay gives the state of this machine at a step.
+/// Whether the replay returns the state of this machine at a step.
 fn is_at(replay: &mut Replay<Machine>, step: u32, machine: &Machine) -> bool {
     match replay.at(step) {
         Ok(state) => are_alike(state, machine),
@@ -171,8 +171,8 @@ fn is_at(replay: &mut Replay<Machine>, step: u32, machine: &Machine) -> bool {
     }
 }
 
-/// Makes some edit of a key event, and returns whether it was accepted. An event that is there is
-/// replaced or deleted.
+/// Makes a generated edit of a key event, and returns whether it was accepted. If there already is
+/// an event, the edit replaces or deletes the event.
 fn edit(run: &mut Run, state: &mut u32) -> bool {
     let step = next(state) % STEPS / APART * APART;
     let key = next(state) % KEYS;
@@ -194,7 +194,7 @@ fn edit(run: &mut Run, state: &mut u32) -> bool {
     edit_replay(&mut run.replay, word, step, key, down).is_ok()
 }
 
-/// Makes some edits, and returns whether all were accepted and the replay then answers as it should.
+/// Makes some edits, and returns whether all edits were accepted and the replay then answers correctly.
 fn goes_on(run: &mut Run, state: &mut u32) -> Result<bool, AllocError> {
     for _ in 0..next(state) % 4 {
         if !edit(run, state) {
@@ -204,8 +204,8 @@ fn goes_on(run: &mut Run, state: &mut u32) -> Result<bool, AllocError> {
     answers_from(run, next(state) % STEPS)
 }
 
-/// Makes the run of a seed, and returns the number, from 0, of the first command after which an answer
-/// differs.
+/// Makes the run of a seed, and returns the number, counted from 0, of the first command after which
+/// an answer differs.
 fn first_difference(alloc: Global, seed: u32) -> Result<Option<u32>, AllocError> {
     let mut state = seed;
     let mut run = opened(alloc, &mut state)?;

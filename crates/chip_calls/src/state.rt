@@ -1,18 +1,18 @@
-//! Commands about the state of a machine. Numbers are hexadecimal, except for those of steps, rows,
+//! Commands about the state of a machine. Numbers are hexadecimal, except for step numbers, rows,
 //! places and counts.
 //!
 //! - `state`: V0 to V3, VF, pc, I and the number of the stop cause, or 0. `registers`: V0 to V3 and
-//!   VF. `pc`, `stop`, `delay`: one of them. `timers`: the delay timer and the sound timer. `draws`:
-//!   the number of random bytes used. `idle KEYS`, `idle any`: whether each step with these keys
-//!   down, or with any keys, leaves the state as it is.
-//! - `bytes ADDRESS COUNT`: COUNT bytes from an address on, and `--` for each past the end of the memory.
-//! - `frames`, `frame PLACE`, `depth`: the addresses that open calls return to, the one at a place, and
-//!   how many there are. `flags`, `flag PLACE`: the flag registers, and the one at a place.
-//! - `high`: whether the screen has its high size. `row ROW`: the pixels of a row; the leftmost one is
-//!   the highest bit. `screen`: each row with a lit pixel. `rows`: whether the rows that are borrowed
-//!   have the same pixels, and no pixel is lit past the last row.
-//! - `profiles`, `profile NAME`: the names of all profiles, and the name of the profile that NAME finds.
-//!   `start-error NUMBER`: the text of an error of a start.
+//!   VF. `pc`, `stop`, `delay`: a single value. `timers`: the delay timer and the sound timer.
+//!   `draws`: the number of random bytes used. `idle KEYS`, `idle any`: whether each step with these
+//!   keys down, or with any keys, leaves the state unchanged.
+//! - `bytes ADDRESS COUNT`: COUNT bytes from an address on, and `--` for each byte past the end of memory.
+//! - `frames`, `frame PLACE`, `depth`: the return addresses of open calls, the return address at a place, and
+//!   the number of open calls. `flags`, `flag PLACE`: the flag registers, and the flag register at a place.
+//! - `high`: whether the screen has its high size. `row ROW`: the pixels of a row; the leftmost pixel
+//!   is the highest bit. `screen`: each row with a lit pixel. `rows`: whether the borrowed rows
+//!   contain the same pixels, and no pixel is lit past the last row.
+//! - `profiles`, `profile NAME`: the names of all profiles, and the name of the profile that is found
+//!   for NAME. `start-error NUMBER`: the text of a start error.
 
 use crate::output::{Refused, Reply};
 use crate::text::{hex_number, number, split_word};
@@ -114,7 +114,7 @@ fn push_found(out: &mut Reply, found: Option<u16>) {
     }
 }
 
-/// Returns the pixels of a row; the leftmost one is the highest bit.
+/// Returns the pixels of a row; the leftmost pixel is the highest bit.
 fn row_bits(machine: &Machine, row: usize) -> u128 {
     let mut bits = 0u128;
     for column in 0..128 {
@@ -123,7 +123,7 @@ fn row_bits(machine: &Machine, row: usize) -> u128 {
     bits
 }
 
-/// Returns the keys that are down, or `None` if any keys may be.
+/// Returns the keys that are down, or `None` if any keys may be down.
 fn keys_of(text: &str) -> Result<Option<u16>, Refused> {
     if text == "any" {
         return Ok(None);
@@ -131,7 +131,7 @@ fn keys_of(text: &str) -> Result<Option<u16>, Refused> {
     Ok(Some(hex_number(text)?))
 }
 
-/// Adds each row with a lit pixel, after its number, or `dark` if there is none.
+/// Appends each row with a lit pixel, after the row's number, or `dark` if there is no such row.
 fn push_screen(out: &mut Reply, machine: &Machine) {
     let mut is_dark = true;
     for row in 0..64usize {
@@ -148,8 +148,8 @@ fn push_screen(out: &mut Reply, machine: &Machine) {
     }
 }
 
-/// Whether each row that is borrowed has the pixels of the screen, and the row past the last one has
-/// none.
+/// Whether each borrowed row contains the pixels of the screen, and the row past the last one
+/// contains no lit pixel.
 fn are_rows_lit(machine: &Machine) -> bool {
     for row in 0..64 {
         if machine.row(row) != row_bits(machine, row) {
@@ -159,7 +159,7 @@ fn are_rows_lit(machine: &Machine) -> bool {
     machine.row(64) == 0
 }
 
-/// Adds the names of profiles, the name of one, or the text of an error.
+/// Appends the names of all profiles, the name of one profile, or the text of an error.
 pub(crate) fn push_profile(
     alloc: Global,
     out: &mut Reply,
@@ -176,7 +176,7 @@ pub(crate) fn push_profile(
     Ok(())
 }
 
-/// Returns the name of the profile that `name` finds, or `none`.
+/// Returns the name of the profile that is found for `name`, or `none`.
 fn profile_name(name: &str) -> &'static str {
     match Profile::from_name(name) {
         Some(profile) => profile.name(),

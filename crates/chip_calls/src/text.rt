@@ -8,7 +8,7 @@ pub(crate) fn split_word(text: &str) -> (&str, &str) {
     text.split_once(" ").unwrap_or((text, ""))
 }
 
-/// Returns the bytes that the line of a command stands for: the built text for `@text`, otherwise the
+/// Returns the bytes that the line of a command means: the built text for `@text`, and otherwise the
 /// bytes of the line.
 pub(crate) fn line_bytes<'a>(built: &'a [u8], line: &'a str) -> &'a [u8] {
     if line == "@text" {
@@ -18,7 +18,7 @@ pub(crate) fn line_bytes<'a>(built: &'a [u8], line: &'a str) -> &'a [u8] {
     }
 }
 
-/// Returns the number of 32 bits that a text is in decimal, and fails if it is none.
+/// Returns the 32-bit number that a text states in decimal, and fails if the text isn't such a number.
 pub(crate) fn number(text: &str) -> Result<u32, Refused> {
     match text.parse::<u32>() {
         Ok(number) => Ok(number),
@@ -26,7 +26,7 @@ pub(crate) fn number(text: &str) -> Result<u32, Refused> {
     }
 }
 
-/// Returns the number of 16 bits that a text is in hexadecimal, and fails if it is none.
+/// Returns the 16-bit number that a text states in hexadecimal, and fails if the text isn't such a number.
 pub(crate) fn hex_number(text: &str) -> Result<u16, Refused> {
     match u16::from_str_radix(text, 16) {
         Ok(number) => Ok(number),
@@ -34,7 +34,7 @@ pub(crate) fn hex_number(text: &str) -> Result<u16, Refused> {
     }
 }
 
-/// Returns the bytes of a text in hexadecimal, which may have blanks between them. Fails if the text has
+/// Returns the bytes of a text in hexadecimal, which may contain blanks. Fails if the text contains
 /// other characters, or an odd number of digits.
 pub(crate) fn bytes_of_hex(alloc: Global, text: &str) -> Result<Vec<u8>, Refused> {
     let digits = text.replace(alloc, " ", "")?;

@@ -1,5 +1,5 @@
-//! A small machine for a replay. The machine defines one step alone, and so it has the `steps` that
-//! the trait gives by default.
+//! A small machine for a replay. The machine defines only a single step, so it uses the default
+//! `steps` of the trait.
 
 ghost use Rattle.std.specs.Prelude.{◌≡◌};
 

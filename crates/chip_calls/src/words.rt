@@ -1,10 +1,10 @@
 //! Commands about words of instructions.
 //!
 //! - `decode WORD`: the word of the instruction that WORD encodes, or `none`. `show WORD`: the source
-//!   text of WORD, once as a new text and once added to another.
-//! - `decode-all`: how many words are instructions; each has to be the word of its instruction.
-//! - `show-all`: how many lines were read and encoded when the source text of every word is. Each line
-//!   has to have the word as its code, and to be one of data exactly if the word is not an instruction.
+//!   text of WORD, once as a new text and once appended to another text.
+//! - `decode-all`: the number of words that are instructions. Each must be the word of its instruction.
+//! - `show-all`: the number of lines that were read and encoded for the source texts of all words. Each line's
+//!   code must be the word, and the line must be a data line exactly if the word is not an instruction.
 
 use crate::language::{NoNames, read};
 use crate::output::{Refused, Reply};
@@ -29,7 +29,7 @@ pub(crate) fn answer(
     Ok(())
 }
 
-/// Returns the word of the instruction that a word encodes, or `None` if it encodes none.
+/// Returns the word of the instruction that a word encodes, or `None` if the word encodes none.
 fn decoded(word: u16) -> Option<u16> {
     decode(word).map(word_of)
 }
@@ -74,7 +74,7 @@ fn show_all(alloc: Global, out: &mut Reply) -> Result<(), AllocError> {
     Ok(())
 }
 
-/// Whether the source text of a word has the word as its code, and is one of data exactly if the word is
+/// Whether the source text of a word has the word as its code, and is a data line exactly if the word is
 /// not an instruction.
 fn gives_back(alloc: Global, meter: &mut Meter, word: u16) -> Result<bool, AllocError> {
     let text = show(alloc, word)?;
@@ -83,7 +83,7 @@ fn gives_back(alloc: Global, meter: &mut Meter, word: u16) -> Result<bool, Alloc
     Ok(has_code(alloc, meter, &*line, word)? && is_data == decoded(word).is_none())
 }
 
-/// Whether a line has a word as its code.
+/// Whether the code of a line is the given word.
 fn has_code(alloc: Global, meter: &mut Meter, line: &Line, word: u16) -> Result<bool, AllocError> {
     match encode(alloc, meter, line, &NoNames)? {
         Coded::Bytes(bytes) => Ok(bytes.get() == word.to_be_bytes().as_slice()),

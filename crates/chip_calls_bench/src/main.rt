@@ -1,41 +1,45 @@
 //! Calls of chip_bench, as text: each line of the standard input is a command, and the program prints
-//! its answer.
+//! the answer to the command.
 //!
-//! - `source TEXT`, `script TEXT`: adds a line to the source or to the script. `repeat N TEXT` adds
-//!   the text N times to the source, or N line ends if the text is `\n`.
-//! - `settings RATE LENGTH EVERY`: `ok` if there are settings with this rate, a tape of LENGTH bytes and
-//!   this spacing; otherwise the error.
+//! - `source TEXT`, `script TEXT`: appends a line to the source or to the script. `repeat N TEXT`
+//!   appends the text N times to the source, or N line ends if the text is `\n`.
+//! - `settings RATE LENGTH EVERY`: `ok` if settings with this rate, a tape of LENGTH bytes and this
+//!   spacing are valid; otherwise the error.
 //! - `tape SEED`: the tape of a seed in hexadecimal.
-//! - `open EVERY`: opens a session on the source, with this spacing. `do COMMAND` carries out a command
-//!   in the session. `parsed N`, `encoded N`, `ran N` and `reach N`: `yes` if N lines were parsed, at most
-//!   N were encoded, the last command made at most N steps, or the kept run is sound up to step N or
-//!   further; otherwise `no` and the count. `encoded LEAST MOST` and `ran LEAST MOST` also ask for a
+//! - `open EVERY`: opens a session on the source, with this spacing. `do COMMAND` executes a command in
+//!   the session. `parsed N`, `encoded N`, `ran N` and `reach N`: `yes` if N lines were parsed, at most N
+//!   lines were encoded, the last command executed at most N steps, or the kept run is valid up to step N
+//!   or further; otherwise `no` and the count. `encoded LEAST MOST` and `ran LEAST MOST` also require a
 //!   count of at least LEAST.
 //! - `streams NAME=NUMBER..`: sets how the reader and the writer behave from then on (`Plan`). `serve`
-//!   answers the script by the function `serve`, and `each NAME FIRST LAST` does so with each number from
-//!   FIRST to LAST for that part of the plan.
+//!   answers the script with the function `serve`, and `each NAME FIRST LAST` does the same with each
+//!   number from FIRST to LAST for that part of the plan.
 //! - `program WORD..`: the status of the program with these arguments, and the texts that it prints.
 //! - `refuse REASON`: the status and the texts of the program if its arguments can't be read.
-//! - `held MOST WORD..`: hands the words, one after another, to a writer that holds back up to MOST
-//!   bytes; `.` is a flush. The answer has a line for each call: the number of bytes that it took, `ok`
-//!   for a flush, or `failed`. After the writer is dropped, the last line has the number of writes and of
-//!   flushes that the writer inside got, and the bytes that it took.
-//! - `counted`: makes a read, a write and a flush, and answers which went well, how many calls the reader
-//!   and the writer got, and how many failures were counted.
+//! - `held MOST WORD..`: passes the words, one after another, to a writer that holds back up to MOST
+//!   bytes; `.` is a flush. The answer contains a line for each call: the number of bytes that the writer
+//!   took, `ok` for a flush, or `failed`. After the writer is dropped, the last line states how many
+//!   writes and flushes the inner writer received, and the bytes that it took.
+//! - `counted`: reads, writes and flushes once, and answers which calls succeeded, how many calls the
+//!   reader and the writer received, and how many failures were counted.
+//! - `surface`: makes each call that other programs are written against, for one small game, and answers the
+//!   results.
 #![tactic(auto)]
 
 mod session;
 mod streams;
+mod surface;
 
 use crate::session::Session;
 use crate::streams::{Feed, Plan, Sink, each, talk};
+use crate::surface::surface;
 use anyhow::{Error, bail};
 use chip_bench::{Counted, HeldWriter, Host, Settings, System, program, refuse_arguments, tape_of};
 use std::alloc::Global;
 use std::io;
 use std::io::{BufRead, BufReader, Read, Write};
 
-/// The state that the commands so far made.
+/// The state after the commands so far.
 #[derive(Drop)]
 struct Calls {
     source: Vec<u8>,
@@ -54,7 +58,7 @@ impl Calls {
         })
     }
 
-    /// Returns the answer to a command: lines, or nothing.
+    /// Returns the answer to a command: lines, or an empty text.
     fn answer(&mut self, rt: &HostRuntime, word: &str, rest: &str) -> Result<String, Error> {
         let alloc = rt.alloc();
         match word {
@@ -68,6 +72,7 @@ impl Calls {
             "refuse" => refuse(alloc, rest),
             "held" => held(alloc, &self.plan, rest),
             "counted" => counted(alloc, &self.plan),
+            "surface" => surface(alloc),
             _ => {
                 self.prepare(alloc, word, rest)?;
                 Ok(String::new(alloc))
@@ -75,7 +80,7 @@ impl Calls {
         }
     }
 
-    /// Carries out a command that has no answer.
+    /// Executes a command that has no answer.
     fn prepare(&mut self, alloc: Global, word: &str, rest: &str) -> Result<(), Error> {
         match word {
             "source" => add_line(&mut self.source, rest)?,
@@ -96,14 +101,14 @@ impl Calls {
     }
 }
 
-/// Adds a line to a text.
+/// Appends a line to a text.
 fn add_line(text: &mut Vec<u8>, line: &str) -> Result<(), Error> {
     text.extend_from_slice(line.as_bytes())?;
     text.push(b'\n')?;
     Ok(())
 }
 
-/// Returns `ok` if there are settings with a rate, a length of the tape and a spacing of checkpoints, or
+/// Returns `ok` if settings with this rate, tape length and spacing of checkpoints are valid, and
 /// otherwise the error.
 fn settings(alloc: Global, rest: &str) -> Result<String, Error> {
     let mut words = rest.split(" ");
@@ -125,7 +130,7 @@ fn tape(alloc: Global, seed: &str) -> Result<String, Error> {
     Ok(hex::encode(alloc, &tape_of(alloc, seed.parse::<u64>()?)?)?)
 }
 
-/// Returns one text with a status, the output and the text of the errors.
+/// Returns one text that contains a status, the output and the text of the errors.
 fn told(alloc: Global, status: u8, output: &[u8], errors: &[u8]) -> Result<String, Error> {
     let output = String::from_utf8_lossy(alloc, output)?;
     let errors = String::from_utf8_lossy(alloc, errors)?;
@@ -156,8 +161,8 @@ fn run(rt: &HostRuntime, words: &str, script: &[u8], plan: &Plan) -> Result<Stri
     told(rt.alloc(), status, &output.get().taken, &errors)
 }
 
-/// Returns the status and the text of the error of the program if the system can't give its arguments
-/// for this reason.
+/// Returns the status and the error text of the program if the system can't provide its arguments for
+/// this reason.
 fn refuse(alloc: Global, reason: &str) -> Result<String, Error> {
     let kind = match reason {
         "invalid-data" => io::ErrorKind::InvalidData,
@@ -169,7 +174,7 @@ fn refuse(alloc: Global, reason: &str) -> Result<String, Error> {
     told(alloc, status, b"", &errors)
 }
 
-/// Reads, writes and flushes once. Returns which of these went well, and the numbers of calls and of
+/// Reads, writes and flushes once. Returns which calls succeeded, and the numbers of calls and of
 /// failures.
 fn counted(alloc: Global, plan: &Plan) -> Result<String, Error> {
     let mut reader = Counted::new(Feed::new(b"x", plan));
@@ -185,8 +190,8 @@ fn counted(alloc: Global, plan: &Plan) -> Result<String, Error> {
     )?)
 }
 
-/// Hands words to a writer that holds bytes back. Returns how each call went, which calls the writer
-/// inside got, and the bytes that it took.
+/// Passes words to a writer that holds bytes back. Returns the result of each call, the number of
+/// calls that the inner writer received, and the bytes that it took.
 fn held(alloc: Global, plan: &Plan, rest: &str) -> Result<String, Error> {
     let (most, words) = rest.split_once(" ").unwrap_or((rest, ""));
     let mut sink = Sink::new(alloc, plan);
@@ -202,7 +207,7 @@ fn held(alloc: Global, plan: &Plan, rest: &str) -> Result<String, Error> {
     Ok(lines)
 }
 
-/// Writes a word, or flushes for `.`, and returns how that went.
+/// Writes a word, or flushes for `.`, and returns the result.
 fn hand_over(alloc: Global, writer: &mut impl Write, word: &str) -> Result<String, Error> {
     if word == "." {
         let flushed = if writer.flush().is_ok() {
@@ -218,7 +223,7 @@ fn hand_over(alloc: Global, writer: &mut impl Write, word: &str) -> Result<Strin
     }
 }
 
-/// Prints the answer to each line of the input, or its error.
+/// Prints the answer to each line of the input, or the line's error.
 fn answer_all(rt: &HostRuntime, calls: &mut Calls) -> Result<(), Error> {
     for line in BufReader::new(rt.alloc(), rt.stdin())?.lines(rt.alloc()) {
         let line = line?;

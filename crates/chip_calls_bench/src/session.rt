@@ -5,7 +5,7 @@ use chip_bench::{Bench, Settings};
 use chip_session::respond;
 use std::alloc::Global;
 
-/// A session, and the number of steps that it had made before the last command.
+/// A session, and the number of steps that it had executed before the last command.
 #[derive(Drop)]
 pub(crate) struct Session {
     bench: Bench,
@@ -22,7 +22,7 @@ impl Session {
         })
     }
 
-    /// Carries out a command, and returns its answer.
+    /// Executes a command, and returns its answer.
     pub(crate) fn carry_out(&mut self, alloc: Global, command: &str) -> Result<String, Error> {
         self.ran_before = self.bench.ran();
         let mut answer = Vec::new(alloc);
@@ -30,9 +30,9 @@ impl Session {
         Ok(String::from_utf8_lossy(alloc, &answer)?)
     }
 
-    /// Returns `yes` if a count is as wanted, and otherwise `no` and the count. The count of `parsed` has to
-    /// be MOST, that of `reach` MOST or more, and any other from LEAST to MOST. `wanted` is `LEAST MOST` or
-    /// `MOST`, and then LEAST is 0.
+    /// Returns `yes` if a count is as wanted, and otherwise `no` and the count. The count of `parsed` must
+    /// be MOST, the count of `reach` must be at least MOST, and any other count must be from LEAST to MOST.
+    /// `wanted` is `LEAST MOST`, or `MOST` alone for a LEAST of 0.
     pub(crate) fn judge(&self, alloc: Global, word: &str, wanted: &str) -> Result<String, Error> {
         let (least, most) = wanted.split_once(" ").unwrap_or(("0", wanted));
         let (least, most) = (least.parse::<u64>()?, most.parse::<u64>()?);

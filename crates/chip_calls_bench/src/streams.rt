@@ -1,4 +1,4 @@
-//! Readers and writers that end, fail or go slowly, and that count their own failures.
+//! Readers and writers that end, fail or transfer few bytes at a time, and that count their own failures.
 
 use anyhow::{Error, bail};
 use chip_bench::{Counted, ServeError, Settings, serve};
@@ -6,30 +6,30 @@ use std::alloc::Global;
 use std::io;
 use std::io::{ErrorKind, Read, Write};
 
-/// The behaviour of a reader and a writer. The command `streams` gives the parts of a plan as
-/// `NAME=NUMBER`.
+/// The behaviour of a reader and a writer. The command `streams` sets the parts of a plan in the
+/// form `NAME=NUMBER`.
 #[derive(Clone, Copy)]
 pub(crate) struct Plan {
-    /// `front`: the number of bytes of the script that the reader gives.
+    /// `front`: the number of bytes of the script that the reader returns.
     front: usize,
-    /// `read`: the greatest number of bytes that a read gives.
+    /// `read`: the maximum number of bytes that a read returns.
     read: usize,
-    /// `reader-fails`: whether the reader fails where it would otherwise give no byte, and so end.
+    /// `reader-fails`: whether the reader fails when it would otherwise return no bytes and so end.
     reader_fails: bool,
-    /// `written`: the greatest number of bytes that a write takes.
+    /// `written`: the maximum number of bytes that a write takes.
     written: usize,
-    /// `room`: the number of bytes that the writer takes in all.
+    /// `room`: the number of bytes that the writer takes in total.
     room: usize,
-    /// `writer-fails`: whether the writer fails where it would otherwise take no byte.
+    /// `writer-fails`: whether the writer fails when it would otherwise take no bytes.
     writer_fails: bool,
     /// `flush-fails`: whether a flush fails.
     flush_fails: bool,
-    /// Why a read or a write fails: `Other` with `other-error`, and `Interrupted` without.
+    /// Why a read or a write fails: `Other` with `other-error`, and `Interrupted` without it.
     reason: ErrorKind,
 }
 
 impl Plan {
-    /// The plan of a reader and a writer that give and take all bytes.
+    /// The plan of a reader and a writer that return and take all bytes.
     pub(crate) const PLAIN: Plan = Plan {
         front: usize::MAX,
         read: usize::MAX,
@@ -41,8 +41,8 @@ impl Plan {
         reason: ErrorKind::Interrupted,
     };
 
-    /// Returns the plain plan with parts `NAME=NUMBER`; `NAME` alone stands for `NAME=1`. Fails if a part
-    /// has an unknown name or a bad number.
+    /// Returns the plain plan, changed by the parts `NAME=NUMBER`; `NAME` alone means `NAME=1`. Fails if
+    /// a part has an unknown name or a bad number.
     pub(crate) fn read(parts: &str) -> Result<Plan, Error> {
         let mut plan = Plan::PLAIN;
         for part in parts.split_whitespace() {
@@ -70,7 +70,7 @@ impl Plan {
     }
 }
 
-/// A reader that follows a plan, and the bytes that it has yet to give.
+/// A reader that follows a plan, and the bytes that it hasn't returned yet.
 #[derive(Drop)]
 pub(crate) struct Feed<'a> {
     left: &'a [u8],
@@ -151,7 +151,7 @@ impl Write for Sink {
     }
 }
 
-/// Serves a session on a source, at the rate 10 and with the tape of one zero, and returns how it ended.
+/// Serves a session on a source, at the rate 10 and with a tape of one zero byte, and returns how it ended.
 fn serve_by(
     alloc: Global,
     source: &[u8],
@@ -162,8 +162,8 @@ fn serve_by(
     Ok(serve(alloc, source, settings, reader, writer))
 }
 
-/// Serves a session, and returns how it ended; how many failures of the reader and of the writer were
-/// counted, and how many there were; and the text that was written.
+/// Serves a session. Returns how the session ended, the numbers of counted and of actual failures of
+/// the reader and of the writer, and the text that was written.
 pub(crate) fn talk(
     alloc: Global,
     source: &[u8],
@@ -182,7 +182,7 @@ pub(crate) fn talk(
 }
 
 /// Serves a session for each number from FIRST to LAST of a part of the plan; `words` is
-/// `NAME FIRST LAST`. Returns one line for each range of successive numbers whose sessions go alike.
+/// `NAME FIRST LAST`. Returns one line for each range of successive numbers whose sessions end alike.
 pub(crate) fn each(
     alloc: Global,
     source: &[u8],

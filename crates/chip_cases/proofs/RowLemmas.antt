@@ -1,4 +1,4 @@
--- Lemmas on the comparison of lines by rows, which have a bit for each end of the answered lines.
+-- Lemmas about the comparison of lines by rows, which have a bit for each suffix of the answered lines.
 use Rattle.std.proofs.Common.{◌≡◌, ◌≢◌, ◌⊎◌, inl, inr, ℕ, zero, suc, ◌+◌, ◌-◌, ◌<◌, ◌≤◌, ◌&&◌, ◌||◌, Bool, true, false, Bor, List, [], ◌∷◌, ◌++◌, drop, length, get_or, refl, sym, ap, ◌∙◌, subst, arith, drop-cons, length-append}
 use Rattle.std.specs.Prelude.{◌↔◌}
 use Rattle.std.specs.Str.{bytes_eq}
@@ -9,7 +9,7 @@ use Rattle.chip_cases.specs.Matching.{Matches, any_lines, texts}
 use Rattle.chip_cases.specs.inner.Rows.{IsRow, stands_for}
 
 module _ (line : List ℕ) (others : List (List ℕ)) where
-  -- `...` against no answered lines, against some, and against one line more
+  -- `...` against no answered lines, against some, and against one more line
   any_nil : Matches (line ∷ others) [] → Matches others []
   any_nil ([], (rest, split, stands, m)) = subst (Matches others) (sym split) m
   any_nil (p ∷ ps, (rest, split, stands, m)) = cc
@@ -39,13 +39,13 @@ module _ (line : List ℕ) (others : List (List ℕ)) where
   one_here : (x : List ℕ) (xs : List (List ℕ)) → x ≡ line → Matches others xs → Matches (line ∷ others) (x ∷ xs)
   one_here x xs same m = (line ∷ [], (xs, ap (λ y. y ∷ xs) same, inr refl, m))
 
-  -- the end without lines
+  -- the empty suffix
   first_is : (is_any : Bool) → bytes_eq line any_lines ≡ is_any → (behind : Bool) → (behind ≡ true) ↔ Matches others [] → ((is_any && behind) ≡ true) ↔ Matches (line ∷ others) []
   first_is true e true given = (λ _. any_here [] ((bytes_eq-Decides line any_lines).0 e) (given.0 refl), λ _. refl)
   first_is true e false given = (λ no. absurd (let n : false ≡ true = no in cc), λ m. given.1 (any_nil m))
   first_is false e behind given = (λ no. absurd (let n : false ≡ true = no in cc), λ m. absurd (one_nil (λ is. let t = (bytes_eq-Decides line any_lines).1 is in cc) m))
 
-  -- an end with one line more
+  -- a suffix with one more line
   more_is : (x : List ℕ) (xs : List (List ℕ)) (later behind next : Bool) → (later ≡ true) ↔ Matches (line ∷ others) xs → (behind ≡ true) ↔ Matches others (x ∷ xs)
       → (next ≡ true) ↔ Matches others xs → (stands_for line x later behind next ≡ true) ↔ Matches (line ∷ others) (x ∷ xs)
   more_is x xs later behind next l b n = by_tests (bytes_eq line any_lines) (bytes_eq x line) refl refl
@@ -68,7 +68,7 @@ module _ (line : List ℕ) (others : List (List ℕ)) where
       by_tests true same e f = rw e (by_any ((bytes_eq-Decides line any_lines).0 e) later behind refl refl)
       by_tests false same e f = rw e (by_one (λ is. let t = (bytes_eq-Decides line any_lines).1 is in cc) (bytes_eq x line) next refl refl)
 
--- a row with one bit more
+-- a row with one more bit
 row_more : (expected answered : List (List ℕ)) (row : List Bool) (bit : Bool) → IsRow expected answered row
     → (bit ≡ true) ↔ Matches expected (drop (length answered - length row) answered) → IsRow expected answered (row ++ bit ∷ [])
 row_more expected answered row bit is last = record { each = λ count within. at count within (cases_lt count (length row)) }
@@ -92,7 +92,7 @@ nothing_left xs = let all : length xs - 0 ≡ length xs = omega arith in ap (λ 
     go [] = refl
     go (y ∷ ys) = go ys
 
--- the row behind all expected lines
+-- the row after all expected lines
 pub row_of_none : (answered : List (List ℕ)) (row : List Bool) → length row ≡ length answered + 1 → get_or row 0 false ≡ true
     → ((count : ℕ) → 0 < count → count < length row → get_or row count false ≡ false) → IsRow [] answered row
 row_of_none answered row whole first others = record { each = at }
@@ -108,7 +108,7 @@ row_of_none answered row whole first others = record { each = at }
         let no = others (suc count) (omega arith) h in
         (λ yes. absurd (let n : false ≡ true = sym no ∙ yes in cc), λ e. absurd (some_left answered (length answered - suc count) (omega (arith, h, whole)) e))
 
--- the first bit of the row with one expected line more
+-- the first bit of the row with one more expected line
 pub row_begins : (line : List ℕ) (others answered : List (List ℕ)) (behind : List Bool) → 0 < length behind → IsRow others answered behind
     → IsRow (line ∷ others) answered ((bytes_eq line any_lines && get_or behind 0 false) ∷ [])
 row_begins line others answered behind some is =
@@ -125,7 +125,7 @@ row_begins line others answered behind some is =
     at zero h = subst (λ xs. (bit ≡ true) ↔ Matches (line ∷ others) xs) (sym (nothing_left answered)) first
     at (suc count) h = absurd (omega arith)
 
--- each further bit of the row with one expected line more
+-- each further bit of the row with one more expected line
 pub row_goes_on : (line first : List ℕ) (others answered : List (List ℕ)) (behind row : List Bool) (count : ℕ) → 0 < count → count < length behind
     → length behind ≡ length answered + 1 → length row ≡ count → get_or answered (length answered - count) [] ≡ first
     → IsRow others answered behind → IsRow (line ∷ others) answered row
@@ -160,7 +160,7 @@ row_goes_on line first others answered behind row count some within whole long i
     more = more_is line others first rest later now next (begun.each (count - 1) (omega (arith, some, long)))
         (subst (λ xs. (now ≡ true) ↔ Matches others xs) ends (is.each count within)) (is.each (count - 1) (omega (arith, some, within)))
 
--- the text at a place
+-- the text at an index
 pub text_at : (lines : List (Bor (List ℕ))) (place : ℕ) (nothing : Bor (List ℕ)) → place < length lines → get_or (texts lines) place [] ≡ (get_or lines place nothing).now
 text_at lines place nothing within = get_or-map (λ (text : Bor (List ℕ)). text.now) lines place nothing [] within
 
@@ -196,7 +196,7 @@ drop_before lines left nothing some within =
     drop-cons (texts lines) (left - 1) [] here_too ∙ ap (λ f. f ∷ drop (suc (left - 1)) (texts lines)) (text_at lines (left - 1) nothing here)
     ∙ ap (λ n. (get_or lines (left - 1) nothing).now ∷ drop n (texts lines)) next
 
--- the row of all expected lines, at all answered ones
+-- the row of all expected lines, at the number of all answered lines
 pub row_ends : (lines answered : List (Bor (List ℕ))) (row : List Bool) (left : ℕ) → left ≤ 0 → length row ≡ length answered + 1
     → IsRow (drop left (texts lines)) (texts answered) row → (get_or row (length answered) false ≡ true) ↔ Matches (texts lines) (texts answered)
 row_ends lines answered row left none whole is =

@@ -5,8 +5,8 @@ use Rattle.chip_cases.specs.Lines.{begins_part, begins_source, ends_source, is_c
 use Rattle.chip_cases.specs.Steps.{expectation_of, steps_below}
 use Rattle.chip_cases.specs.declared.case.Case.{Case}
 
--- The lines from the first command or case on. A line of a source is neither; the first argument says
--- whether the given lines begin inside a source.
+-- The lines from the first command or case on. A line inside a source is neither. The first argument
+-- is whether the given lines begin inside a source.
 abbrev pub behind_setup : Bool → List (List ℕ) → List (List ℕ)
 behind_setup in_source [] = []
 behind_setup true (line ∷ lines) =
@@ -20,7 +20,7 @@ abbrev pub behind_steps : List (List ℕ) → List (List ℕ)
 behind_steps [] = []
 behind_steps (line ∷ lines) = if is_case line then line ∷ lines else behind_steps lines
 
--- A case has this name, and the commands of these lines.
+-- A case has this name and the commands in these lines.
 pub record IsCase (name : List ℕ) (commands : List (List ℕ)) (case : Case) : Type 0 where
   pub named : case.name.now ≡ name
   pub steps : map expectation_of case.steps.items ≡ steps_below commands
@@ -34,14 +34,14 @@ AreCasesOf lines (case ∷ cases) =
     × IsCase (other_words line) (behind_setup false below) case
     × AreCasesOf (behind_steps (behind_setup false below)) cases)
 
--- A file has one case alone, which has no name.
+-- A file contains exactly one case, which has no name.
 pub record IsOneCase (commands : List (List ℕ)) (cases : List Case) : Type 0 where
   pub case : Case
   pub alone : cases ≡ case ∷ []
   pub is_case : IsCase [] commands case
   pub no_other : behind_steps commands ≡ []
 
--- the cases of a file, from the lines after the setup that holds for all of them
+-- the cases of a file, given the lines after the setup that applies to all of them
 abbrev pub AreCasesBehind : List (List ℕ) → List Case → Type 0
 AreCasesBehind commands cases =
     IsOneCase commands cases

@@ -1,8 +1,8 @@
 -- The definitions behind the contracts of chip_cases (chosen by this project).
---     Lines        the kinds of lines in a file of cases, as far as the line alone tells
---     Steps        the commands of a case, and the lines that are expected below each
+--     Lines        the kinds of lines in a file of cases that can be recognized from the line alone
+--     Steps        the commands of a case, and the expected lines below each
 --     Cases        the cases of a file
---     Matching     when an answer is as expected
+--     Matching     when an answer matches the expected lines
 --     inner        definitions of private contracts; a reader may skip it
 pub mod Lines
 pub mod Steps

@@ -1,4 +1,4 @@
--- The kinds of lines in a file of cases, as far as the line alone tells (chosen by this project).
+-- The kinds of lines in a file of cases that can be recognized from the line alone (chosen by this project).
 use Rattle.std.specs.Prelude.{ℕ, ◌==◌, ◌||◌, Bool, true, List, [], ◌∷◌, codes}
 use Rattle.std.specs.List.{after_first, before_first}
 use Rattle.std.specs.Str.{bytes_eq}
@@ -27,15 +27,15 @@ is_refused line = bytes_eq (first_word line) (codes "!")
 abbrev pub is_command : List ℕ → Bool
 is_command line = bytes_eq (first_word line) (codes ">") || is_refused line
 
--- whether a line is the first one of a case
+-- whether a line is the first line of a case
 abbrev pub is_case : List ℕ → Bool
 is_case line = bytes_eq (first_word line) (codes "case")
 
--- whether a line ends the part above it
+-- whether a line begins a new part of the file, which is a command or a case
 abbrev pub begins_part : List ℕ → Bool
 begins_part line = is_command line || is_case line
 
--- whether a line is the one before the lines of a source, and whether it is the one after them
+-- whether a line precedes the lines of a source, and whether it follows them
 abbrev pub begins_source : List ℕ → Bool
 begins_source line = bytes_eq line (codes "source")
 

@@ -1,10 +1,10 @@
--- The commands of a case, and the lines that are expected below each (chosen by this project).
+-- The commands of a case, and the expected lines below each (chosen by this project).
 use Rattle.std.specs.Prelude.{ℕ, Bool, List, [], ◌∷◌, if◌then◌else◌}
 use Rattle.chip_cases.specs.Lines.{begins_part, is_case, is_command, is_refused, is_skipped, other_words}
 use Rattle.chip_cases.specs.Matching.{texts}
 use Rattle.chip_cases.specs.declared.case.Step.{Step}
 
--- A command, whether a refusal is expected, and the lines that are expected.
+-- A command, whether a refusal is expected, and the expected lines.
 pub record Expectation : Type 0 where
   pub command : List ℕ
   pub is_refused : Bool
@@ -25,7 +25,7 @@ expected_below (line ∷ lines) =
     if begins_part line then []
     else if is_skipped line then expected_below lines else line ∷ expected_below lines
 
--- the expectation of a command's line, from the lines below it
+-- the expectation of a command's line, given the lines below that line
 abbrev pub expectation : List ℕ → List (List ℕ) → Expectation
 expectation line below = record {
   command = other_words line;
@@ -33,7 +33,7 @@ expectation line below = record {
   expected = expected_below below;
 }
 
--- the commands among some lines, up to the next case
+-- the commands in the given lines, up to the next case
 abbrev pub steps_below : List (List ℕ) → List Expectation
 steps_below [] = []
 steps_below (line ∷ lines) =

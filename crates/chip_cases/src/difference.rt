@@ -1,16 +1,16 @@
-//! The difference between an answer and the lines that are expected, as text.
+//! The difference between an answer and the expected lines, as text.
 
 ghost use Rattle.std.specs.Prelude.{◌≤◌, length};
 
 use crate::matching::lines_that_count;
 use std::alloc::{AllocError, Global};
 
-// The number of lines shown before a difference, and after it, of those that both have.
+// The number of common lines that are shown before a difference, and after it.
 const LINES_AROUND: usize = 3;
 
-/// Returns the expected lines and the lines of an answer in one list: `-` stands before a line that is
-/// only expected, `+` before one that is only in the answer, and a space before one that both have.
-/// Lines far from the difference are left out.
+/// Returns the expected lines and the lines of an answer in one list. `-` marks a line that is only
+/// expected, `+` a line that is only in the answer, and a space a line that is in both. Lines far
+/// from the difference are left out.
 ///
 /// # Errors
 ///
@@ -43,7 +43,7 @@ pub fn difference_text(
     Ok(text)
 }
 
-// The number of equal lines that both begin with.
+// The number of equal lines at the start of both lists.
 fn common_front(expected: &[&[u8]], answered: &[&[u8]]) -> usize
     ensures one { result ≤ length expected.now }
     ensures other { result ≤ length answered.now }
@@ -57,7 +57,7 @@ fn common_front(expected: &[&[u8]], answered: &[&[u8]]) -> usize
     most
 }
 
-// The number of equal lines that both end with.
+// The number of equal lines at the end of both lists.
 fn common_back(expected: &[&[u8]], answered: &[&[u8]]) -> usize
     ensures one { result ≤ length expected.now }
     ensures other { result ≤ length answered.now }
@@ -72,7 +72,7 @@ fn common_back(expected: &[&[u8]], answered: &[&[u8]]) -> usize
     most
 }
 
-// Adds each line, with the mark before it and a newline after it.
+// Appends each line, with the mark before it and a newline after it.
 fn push_marked(text: &mut Vec<u8>, mark: u8, lines: &[&[u8]]) -> Result<(), AllocError> {
     for line in lines {
         text.push(mark)?;

@@ -1,4 +1,4 @@
-//! Files of cases, which are sessions of the workbench together with the answers that are expected.
+//! Files of cases, which are sessions of the workbench together with the expected answers.
 #![tactic(auto)]
 
 mod case;

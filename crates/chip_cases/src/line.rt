@@ -1,4 +1,4 @@
-//! The kinds of lines in a file of cases, as far as the line alone tells.
+//! The kinds of lines in a file of cases that can be recognized from the line alone.
 
 ghost use Rattle.std.specs.Prelude.{◌≡◌, ◌≤◌, length};
 ghost use Rattle.std.specs.List.{after_first, before_first, position_or_len};
@@ -22,29 +22,29 @@ pub(crate) fn is_command(line: &[u8]) -> bool
     mark == b">".as_slice() || mark == b"!".as_slice()
 }
 
-/// Whether the first word of a line is `!`, the mark of a command for which a refusal is expected.
+/// Whether the first word of a line is `!`, which marks a command for which a refusal is expected.
 pub(crate) fn is_refused(line: &[u8]) -> bool
     ensures { result ≡ is_refused line.now }
 {
     split_word(line).0 == b"!".as_slice()
 }
 
-/// Whether a line is the first one of a case: `case NAME`.
+/// Whether a line is the first line of a case: `case NAME`.
 pub(crate) fn is_case(line: &[u8]) -> bool
     ensures { result ≡ is_case line.now }
 {
     split_word(line).0 == b"case".as_slice()
 }
 
-/// Whether a line ends the part above it: it is a command, or the first line of a case.
+/// Whether a line begins a new part of the file, which is a command or a case.
 pub(crate) fn begins_part(line: &[u8]) -> bool
     ensures { result ≡ begins_part line.now }
 {
     is_command(line) || is_case(line)
 }
 
-/// Returns the bytes before the first space and the bytes after it. Without a space, these are the
-/// whole line and nothing.
+/// Returns the bytes before the first space and the bytes after it. If there is no space, these are
+/// the whole line and an empty slice.
 pub(crate) fn split_word(line: &[u8]) -> (&[u8], &[u8])
     ensures word { result.0.now ≡ before_first is_space line.now }
     ensures rest { result.1.now ≡ after_first is_space line.now }

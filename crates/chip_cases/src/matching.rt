@@ -1,4 +1,4 @@
-//! The comparison of an answer with the lines that are expected.
+//! The comparison of an answer with the expected lines.
 
 ghost use Rattle.std.specs.Prelude.{◌≡◌, ℕ, ◌+◌, ◌&&◌, List, [], ◌∷◌, ◌↔◌, IsTrue, IfOk, length, vec_len};
 ghost use Rattle.std.specs.Str.{bytes_eq};
@@ -8,11 +8,11 @@ ghost use Rattle.chip_cases.specs.inner.Rows.{IsRow, stands_for};
 use crate::place::Place;
 use std::alloc::{AllocError, Global};
 
-// The line that stands for any lines.
+// The expected line that matches any lines.
 const ANY_LINES: &[u8] = b"...";
 
-/// Whether an answer is as expected, line for line. An expected line `...` stands for any number of
-/// lines, and empty lines of the answer do not count.
+/// Whether an answer matches the expected lines. An expected line `...` matches any number of
+/// lines, and empty lines of the answer are ignored.
 ///
 /// # Errors
 ///
@@ -25,13 +25,13 @@ pub fn is_answered(alloc: Global, expected: &[&[u8]], answer: &[u8]) -> Result<b
     is_match(alloc, expected, &answered)
 }
 
-/// Whether an answer is a refusal, `no CODE`. Only the answer to `syms` can also begin with `no `, and
-/// that answer ends with a line that is a full stop.
+/// Whether an answer is a refusal, `no CODE`. The only other answer that can begin with `no ` is the
+/// answer to `syms`, which ends with the line `.`.
 pub fn is_refusal(answer: &[u8]) -> bool {
     answer.starts_with(b"no ") && !answer.ends_with(b".\n")
 }
 
-/// Returns the lines of an answer, without empty ones.
+/// Returns the lines of an answer, without empty lines.
 pub(crate) fn lines_that_count<'a>(
     alloc: Global,
     answer: &'a [u8],
@@ -50,8 +50,8 @@ pub(crate) fn lines_that_count<'a>(
     Ok(counted)
 }
 
-// Whether the answered lines are as expected. Bit N of `row` says whether the last N answered lines are
-// as expected from some expected line on. The loop takes the expected lines from the last to the first.
+// Whether the answered lines match the expected ones. Bit N of `row` is whether the last N answered lines match
+// the expected lines from some line on. The loop goes through the expected lines from the last to the first.
 fn is_match(alloc: Global, expected: &[&[u8]], answered: &[&[u8]]) -> Result<bool, AllocError>
     ensures { IfOk result (λ is_match.
         IsTrue is_match ↔ Matches (texts expected.now) (texts answered.now)) }
@@ -66,7 +66,7 @@ fn is_match(alloc: Global, expected: &[&[u8]], answered: &[&[u8]]) -> Result<boo
     Ok(bits[answered.len()])
 }
 
-// Returns the row for the place after all expected lines, where only an end without lines is as expected.
+// Returns the row for the position after all expected lines, where only the empty suffix of the answer matches.
 fn last_row(alloc: Global, answered: &[&[u8]]) -> Result<Vec<bool>, AllocError>
     ensures row { IfOk result (λ row. IsRow [] (texts answered.now) row.items) }
     ensures whole { IfOk result (λ row. vec_len row ≡ length answered.now + 1) }
@@ -79,7 +79,7 @@ fn last_row(alloc: Global, answered: &[&[u8]]) -> Result<Vec<bool>, AllocError>
     Ok(row)
 }
 
-// Returns the row from the expected line `line` on; `behind` is the row from the next expected line on.
+// Returns the row for the expected lines from `line` on. `behind` is the row for the expected lines after `line`.
 fn row_before(
     alloc: Global,
     line: &[u8],
@@ -103,17 +103,17 @@ fn row_before(
     Ok(row)
 }
 
-// Whether an end without lines is as expected from `line` on; `is_behind` says whether it is from the
-// next expected line on.
+// Whether the empty suffix of the answer matches the expected lines from `line` on. `is_behind` is
+// whether that suffix matches the expected lines after `line`.
 fn is_nothing_expected(line: &[u8], is_behind: bool) -> bool
     ensures { result ≡ (bytes_eq line.now any_lines && is_behind) }
 {
     line == ANY_LINES && is_behind
 }
 
-// Whether an end of the answered lines that begins with `first` is as expected from `line` on.
-// `is_later` says this of the end without `first`. `is_behind` and `is_next` say whether the end with
-// `first` and the end without it are as expected from the line after `line` on.
+// Whether a suffix of the answered lines that begins with `first` matches the expected lines from
+// `line` on. `is_later` is whether the suffix without `first` does. `is_behind` and `is_next` are whether
+// the suffix with `first` and the suffix without `first` match the expected lines after `line`.
 fn stands_for(line: &[u8], first: &[u8], is_later: bool, is_behind: bool, is_next: bool) -> bool
     ensures { result ≡ stands_for line.now first.now is_later is_behind is_next }
 {

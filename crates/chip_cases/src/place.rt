@@ -10,7 +10,7 @@ use chip_files::first_line;
 pub(crate) struct Place<'a> {
     /// The bytes of the file after this place.
     pub(crate) rest: &'a [u8],
-    /// The number of the line before this place, from 1; 0 before the first line.
+    /// The number of the line before this place, counted from 1; 0 before the first line.
     pub(crate) number: usize,
 }
 

@@ -12,9 +12,9 @@ use crate::line::{begins_part, is_case, is_command, is_refused, is_skipped, spli
 use crate::place::Place;
 use std::alloc::{AllocError, Global};
 
-/// Returns the cases of a file, in their order. The source, key events and settings before the first
-/// line `case` hold for each case, unless the case gives its own. A file without such a line is one
-/// case.
+/// Returns the cases of a file, in order. The source, key events and settings before the first
+/// `case` line apply to each case, unless the case states its own. A file without a `case` line is
+/// one case.
 ///
 /// # Errors
 ///
@@ -69,9 +69,9 @@ fn push_case<'a>(cases: &mut Vec<Case<'a>>, case: Case<'a>) -> Result<(), AllocE
     Ok(())
 }
 
-/// Returns the line number of the first command whose mark doesn't fit its expected answer, with the
-/// fault. The expected answer to a command with `!` has to be one line, a refusal, and that to a
-/// command with `>` must not be a refusal.
+/// Returns the line number and the fault of the first command whose mark doesn't fit its expected
+/// answer. With `!`, the expected answer must be one line that is a refusal. With `>`, the expected
+/// answer must not be a refusal.
 pub fn misplaced_refusal(cases: &[Case<'_>]) -> Option<(usize, CaseFault)> {
     for case in cases {
         for step in &case.steps {
@@ -89,8 +89,8 @@ pub fn misplaced_refusal(cases: &[Case<'_>]) -> Option<(usize, CaseFault)> {
     None
 }
 
-// Returns the source, key events and settings of the next lines, and those of `common` where these
-// lines give none; and the place before the first command or case.
+// Returns a setup and the place before the first command or case. The setup is `common`, with the
+// source, key events and settings that the lines up to that place state.
 fn read_setup<'a>(begun: Place<'a>, common: Setup<'a>) -> Result<(Setup<'a>, Place<'a>), FileFault>
     ensures behind { IfOk result (λ read. lines read.1.rest.now
         ≡ behind_setup false (lines begun.entry.rest.now)) }
@@ -118,7 +118,7 @@ fn read_setup<'a>(begun: Place<'a>, common: Setup<'a>) -> Result<(Setup<'a>, Pla
     Ok((setup, place))
 }
 
-// Returns the lines before the line `end`, and the place after it. Fails if no such line follows.
+// Returns the lines up to the line `end`, and the place after `end`. Fails if there is no line `end`.
 fn read_source<'a>(begun: Place<'a>) -> Result<(&'a [u8], Place<'a>), FileFault>
     ensures behind { IfOk result (λ read. behind_setup false (lines read.1.rest.now)
         ≡ behind_setup true (lines begun.entry.rest.now)) }
@@ -137,7 +137,7 @@ fn read_source<'a>(begun: Place<'a>) -> Result<(&'a [u8], Place<'a>), FileFault>
     Err(FileFault::Line(begun.number, CaseFault::NoEnd))
 }
 
-// Returns the setup with the setting or the file of a line. Fails if the line gives neither.
+// Returns the setup with the setting or the file that a line states. Fails if the line states neither.
 fn with_line<'a>(setup: Setup<'a>, text: &'a [u8], line: usize) -> Result<Setup<'a>, FileFault> {
     let (word, value) = split_word(text);
     let given = Some(Placed { line, text: value });
@@ -169,8 +169,8 @@ fn with_line<'a>(setup: Setup<'a>, text: &'a [u8], line: usize) -> Result<Setup<
     Ok(with)
 }
 
-// Returns the commands up to the next case, each with the lines that are expected below it; and the
-// place after them.
+// Returns the commands up to the next case, each with its expected lines, and the place after the
+// commands.
 fn read_steps<'a>(alloc: Global, begun: Place<'a>) -> Result<(Vec<Step<'a>>, Place<'a>), AllocError>
     ensures steps { IfOk result (λ read.
         map expectation_of read.0.items ≡ steps_below (lines begun.entry.rest.now)) }
@@ -195,8 +195,8 @@ fn read_steps<'a>(alloc: Global, begun: Place<'a>) -> Result<(Vec<Step<'a>>, Pla
     Ok((steps, place))
 }
 
-// Adds the command of a line with the lines that are expected below it, and returns the place after
-// these lines.
+// Appends the command of a line with the expected lines below it, and returns the place after these
+// lines.
 fn push_step<'a>(
     alloc: Global,
     steps: &mut Vec<Step<'a>>,
@@ -223,8 +223,8 @@ fn push_step<'a>(
     Ok(place)
 }
 
-// Returns the lines up to the next command or case, without comments and empty lines; and the place
-// after them.
+// Returns the lines up to the next command or case, without comments and empty lines, and the place
+// after these lines.
 fn read_expected<'a>(
     alloc: Global,
     begun: Place<'a>,

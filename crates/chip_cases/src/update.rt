@@ -4,20 +4,20 @@ use crate::line::{begins_part, is_command, is_skipped};
 use crate::place::Place;
 use std::alloc::{AllocError, Global};
 
-/// The answer that a command got.
+/// The actual answer to a command.
 #[derive(Drop)]
 pub struct Given {
-    /// The number of the command's line, from 1.
+    /// The number of the command's line, counted from 1.
     pub line: usize,
     /// Whether the command was refused.
     pub is_refused: bool,
     pub answer: Vec<u8>,
 }
 
-/// Returns the text of a file of cases with these answers in place of the expected ones. The answers
-/// are in the order of the lines of their commands. Each command gets the mark that fits its answer in
-/// the new text: `!` for a refusal and `>` for any other answer. Comments and all other lines stay, in
-/// their order.
+/// Returns the text of a file of cases with these answers instead of the expected ones. The answers
+/// are in the order of their commands. In the new text, each command has the mark that fits its
+/// answer: `!` for a refusal, and `>` for any other answer. Comments and all other lines stay, in the
+/// same order.
 ///
 /// # Errors
 ///
@@ -72,7 +72,7 @@ fn expects_refusal(below: Place<'_>) -> bool {
     is_refusal
 }
 
-// Adds the line of a command, with the mark `!` if its answer is a refusal and `>` otherwise.
+// Appends the line of a command, with the mark `!` if its answer is a refusal and `>` otherwise.
 fn push_marked(updated: &mut Vec<u8>, whole: &[u8], is_refused: bool) -> Result<(), AllocError> {
     updated.push(if is_refused { b'!' } else { b'>' })?;
     if let [_, rest @ ..] = whole {
@@ -81,7 +81,7 @@ fn push_marked(updated: &mut Vec<u8>, whole: &[u8], is_refused: bool) -> Result<
     Ok(())
 }
 
-// Adds the line of a command with the mark that fits its answer, and the answer without empty lines.
+// Appends the line of a command with the mark that fits its answer, and the answer without empty lines.
 fn push_answered(updated: &mut Vec<u8>, whole: &[u8], given: &Given) -> Result<(), AllocError> {
     push_marked(updated, whole, given.is_refused)?;
     push_newline(updated)?;
@@ -97,7 +97,7 @@ fn push_answered(updated: &mut Vec<u8>, whole: &[u8], given: &Given) -> Result<(
     Ok(())
 }
 
-// Adds a newline if the text doesn't end with one.
+// Appends a newline if the text doesn't end with one.
 fn push_newline(updated: &mut Vec<u8>) -> Result<(), AllocError> {
     match updated.last() {
         Some(b'\n') => {}

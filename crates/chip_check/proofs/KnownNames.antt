@@ -21,7 +21,7 @@ use Rattle.chip_check.specs.inner.Known.{Agree, listed}
 
 pub ruleset known_names = (value-of-name)
 
--- a map returns the symbol of the first of its entries with a name
+-- a map returns the symbol of the first entry with a name
 pub lookup-listed : (entries : List (Vec ℕ × Symbol)) (name : Name) → lookup (λ (key : Vec ℕ). bytes_eq name key.items) entries ≡ lookup_name (listed entries) name
 lookup-listed [] name = refl
 lookup-listed (e ∷ es) name = ap (cond (bytes_eq name e.0.items) (Some e.1)) (lookup-listed es name)
@@ -44,7 +44,7 @@ or-none : (o : Option Symbol) → option_or o None ≡ o
 or-none None = refl
 or-none (Some s) = refl
 
--- a symbol after another one with its name changes nothing
+-- a symbol whose name is already in the list changes nothing
 pub agree-known : (xs : List (Name × Symbol)) (e : Name × Symbol) → is_some (lookup_name xs e.0) ≡ true → Agree xs (xs ++ e ∷ [])
 agree-known xs e known other = sym (lookup-behind xs (e ∷ []) other ∙ by (bytes_eq other e.0) refl)
   where
@@ -52,7 +52,7 @@ agree-known xs e known other = sym (lookup-behind xs (e ∷ []) other ∙ by (by
     by true same = or-some (lookup_name xs other) _ (subst (λ n. is_some (lookup_name xs n) ≡ true) (sym ((bytes_eq-Decides other e.0).0 same)) known)
     by false apart = ap (λ b. option_or (lookup_name xs other) (cond b (Some e.1) None)) apart ∙ or-none (lookup_name xs other)
 
--- lists that agree give the same values
+-- lists that agree assign the same values
 pub same-values : (xs ys : List (Name × Symbol)) → Agree xs ys → values_of xs ≡ values_of ys
 same-values xs ys agree =
     finite.same_map nat_list_cmp_total (finite.slice_cmp-IsAntisymmetric finite.nat_cmp-IsAntisymmetric) _ _
@@ -68,7 +68,7 @@ same-unknown xs ys last line place [] agree = refl
 same-unknown xs ys last line place (t ∷ ts) agree =
     λ j. if nat_le place t.start && unknown-name xs ys last agree (name_of_token line t) j then Some (record { start = t.start; end = t.end }) else same-unknown xs ys last line place ts agree j
 
--- the place of an undefined name, found by a list that agrees with the symbols of the lines
+-- the place of an undefined name, found with a list that agrees with the symbols of the lines
 pub place_by : (names : List (Name × Symbol)) (lines : List (List ℕ)) (number : ℕ) (line : List ℕ) (span : Span) (found : Option Span) → Agree names (symbols_of lines)
     → first_unknown names (last_seen number (length lines) (reading_of line)) line span.start (tokens_of line) ≡ found → or_span found span ≡ undefined_place lines number line span
 place_by names lines number line span found agree is =

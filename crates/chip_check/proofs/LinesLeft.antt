@@ -1,4 +1,4 @@
--- The lines of a source that are left from a place on.
+-- The lines of a source after an index.
 use Rattle.std.proofs.Common.{◌≡◌, ◌∙◌, ℕ, zero, suc, ◌+◌, ◌-◌, ◌≤◌, false, List, [], ◌∷◌, drop, length, slice_get, nat_eq, ne_eqb, Some, None, arith, refl, sym}
 use Rattle.chip_asm.specs.LineViews.{LineFacts, line_at, line_facts}
 
@@ -15,7 +15,7 @@ past [] i e = omega arith
 past (f ∷ lines) zero e = cc
 past (f ∷ lines) (suc i) e = let k = past lines i e in omega arith
 
--- there is a line of each number up to how many there are
+-- if no line has the number i + 1, the source has at most i lines
 pub none-left : (texts : List (List ℕ)) (i : ℕ) → line_at texts (i + 1) ≡ None → length (line_facts texts) ≤ i
 none-left texts i e =
     let other : nat_eq (i + 1) 0 ≡ false = ne_eqb (i + 1) 0 (omega arith) in

@@ -1,4 +1,4 @@
--- The span of an operand lies in its line.
+-- The span of an operand lies within its line.
 use Rattle.std.proofs.Common.{◌≡◌, ℕ, zero, suc, ◌≤◌, Bool, true, false, if◌then◌else◌, List, [], ◌∷◌, length, Some, subst, arith}
 use Rattle.std.specs.Prelude.{nat_le, IfSome}
 use Rattle.chip_lang.specs.declared.fault_place.Span.{Span}
@@ -44,6 +44,6 @@ spans_after line place from index (t ∷ ts) a = by_place (nat_le from t.start) 
     by_place true these later = these
     by_place false these later = later
 
--- the span of an operand, where there is one
+-- the span of an operand, if there is one
 pub found_in : (line : List ℕ) (from index : ℕ) (found : Span) → operand_span index (tokens_after from (tokens_of line)) ≡ Some found → IsSpanIn line found
 found_in line from index found is = subst (λ o. IfSome o (λ s. IsSpanIn line s)) is (spans_after line 0 from index (tokens_of line) (these_tokens line))

@@ -1,4 +1,4 @@
--- The line of help of a source that doesn't open, as it is printed.
+-- The line of help for a source that doesn't open, as it is printed.
 use Rattle.std.proofs.Common.{◌≡◌, ◌∙◌, ◌++◌, ℕ, Bool, List, ap, append-nil, codes, refl, take}
 use Rattle.std.specs.List.{flat_map, position_or_len}
 use Rattle.chip_asm.specs.Lines.{is_newline}
@@ -11,7 +11,7 @@ use Rattle.chip_check.specs.Json.{hint_prefix, hint_string, hint_strings, quoted
 use Rattle.chip_check.specs.Unopened.{unopened_help}
 use Rattle.chip_check.specs.inner.Printing.{IsHelp}
 
--- no newline ends it
+-- the sentence contains no newline
 one_line : (fault : OpenError) → take (position_or_len is_newline (unopened_help fault)) (unopened_help fault) ≡ unopened_help fault
 one_line (LineTooLong number) = refl
 one_line TooManyLines = refl

@@ -1,12 +1,12 @@
 -- The answer to a property of a source, as `prove` prints it (chosen by this project).
---     met_words          the words where a script breaks the property, reaches an `ever`, or leads a `can` to a dead
+--     met_words          the words if a script breaks the property, reaches an `ever`, or leads a `can` to a dead
 --                        end
---     unmet_words        the words where no script does up to a step
---     proved_words       the words where no script ever does
---     scope_words        the words that follow a proof and say which machines it covers
---     never_words        both together, except that `always` covers one rate alone
+--     unmet_words        the words if no script does so within a number of steps
+--     proved_words       the words if no script ever does so
+--     scope_words        the words that follow a proof and state which machines it covers
+--     never_words        both together, except that `always` gets no scope, because it covers only one rate
 --     answer_words       the outcome in words
---     answer_line, answer_object, answer_text    the answer as a line, as a JSON object, and in the form asked for
+--     answer_line, answer_object, answer_text    the answer as a line, as a JSON object, and in the requested form
 --     is_bad             whether a property is broken, an `ever` isn't reached, or a `can` has a dead end
 use Rattle.std.specs.Prelude.{ℕ, Bool, true, false, List, [], ◌∷◌, ◌++◌, codes, if◌then◌else◌}
 use Rattle.std.specs.Fmt.{decimal}
@@ -30,7 +30,7 @@ unmet_words kind.Ever = codes "not reached"
 unmet_words kind.Can = codes "undecided"
 unmet_words other = codes "unbroken"
 
--- the rate and the random bytes of the settings; these random bytes at any speed; all keys, random bytes and speeds
+-- nothing if a proof covers only the rate and the random bytes of the settings; otherwise what else it covers
 abbrev pub scope_words : Scope → List ℕ
 scope_words scope.AtRate = []
 scope_words scope.AtAnySpeed = codes " at any speed"
@@ -61,12 +61,12 @@ words_at_rate kind (Later events step met covered) =
 words_at_rate kind (Within step) = unmet_up_to kind step
 words_at_rate kind Never = never_words kind scope.AtRate
 
--- the outcome, where a proof may cover more machines than those at the rate
+-- the outcome, if a proof may cover more machines than those at the rate of the settings
 abbrev pub answer_words : Kind → Scope → Outcome → List ℕ
 answer_words kind scope.AtRate outcome = words_at_rate kind outcome
 answer_words kind scope outcome = never_words kind scope
 
--- the words without their steps
+-- the words, without their steps
 abbrev pub word_at_rate : Kind → Outcome → List ℕ
 word_at_rate kind (Found events step met) = met_words kind
 word_at_rate kind (Later events step met covered) = met_words kind
@@ -85,7 +85,7 @@ key_event event =
 abbrev pub further_event : KeyEvent → List ℕ
 further_event event = codes "," ++ key_event event
 
--- events with a comma between each two
+-- key events, separated by commas
 abbrev pub with_commas : List KeyEvent → List ℕ
 with_commas [] = []
 with_commas (event ∷ events) = key_event event ++ flat_map further_event events
@@ -93,7 +93,7 @@ with_commas (event ∷ events) = key_event event ++ flat_map further_event event
 abbrev pub key_events : List KeyEvent → List ℕ
 key_events events = codes ",\"keys\":[" ++ with_commas events ++ codes "]"
 
--- the steps and the key events, as members of an object
+-- the steps and the key events, as members of a JSON object
 abbrev pub answer_members : Outcome → List ℕ
 answer_members (Found events step met) =
     codes ",\"step\":" ++ decimal step ++ key_events events.items
@@ -103,7 +103,7 @@ answer_members (Later events step met covered) =
 answer_members (Within step) = codes ",\"covered\":" ++ decimal step
 answer_members Never = []
 
--- the name of the source, the property's line, what was found, and the property
+-- the name of the source, the property's line number, the words for the outcome, and the property
 abbrev pub answer_line : (name : List ℕ) (line : ℕ) (text words : List ℕ) → List ℕ
 answer_line name line text words =
     name ++ codes ":" ++ decimal line ++ codes ": " ++ words ++ codes ": " ++ text ++ codes "\n"
@@ -121,7 +121,7 @@ answer_text is_json name line text kind scope outcome =
     if is_json then answer_object name line text kind scope outcome
     else answer_line name line text (answer_words kind scope outcome)
 
--- a property that is broken, an `ever` that isn't reached, or a `can` with a dead end
+-- whether a property is broken, an `ever` isn't reached, or a `can` has a dead end
 abbrev pub is_bad : Kind → Outcome → Bool
 is_bad kind.Ever (Found events step met) = false
 is_bad kind.Ever (Later events step met covered) = false

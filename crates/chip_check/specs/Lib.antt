@@ -1,11 +1,11 @@
--- Printing faulty lines and the answers to properties (chosen by this project).
+-- How faulty lines and the answers to properties are printed (chosen by this project).
 --     Answer    the answer to a property
---     Check     the faults of a source as compilers print them
---     Json      the faults of a source as JSON
+--     Check     the faults and warnings of a source as compilers print them
+--     Json      the faults and warnings of a source as JSON
 --     Place     the place of a fault in a source
---     Quoted    the line of a finding, as it is quoted
---     Unopened  why a source doesn't open, as text and as JSON
---     inner     which of the two is printed; no public clause cites it, and a reader may skip it
+--     Quoted    the quoted line of a finding
+--     Unopened  the reason why a source doesn't open, as text and as JSON
+--     inner     text or JSON, and the names that help looks up; no public clause cites it, so you may skip it
 pub mod Answer
 pub mod Check
 pub mod Json

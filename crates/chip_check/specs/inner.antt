@@ -1,5 +1,5 @@
--- Definitions for the proofs inside.
---     Known     the names of a source that lines of help look up
---     Printing  the two ways to print the findings in a source
+-- Definitions for private contracts and proofs.
+--     Known     the names that lines of help look up in a source
+--     Printing  the two formats in which findings in a source are printed
 pub mod Known
 pub mod Printing

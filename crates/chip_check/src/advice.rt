@@ -17,18 +17,18 @@ use chip_lang::{Fault, Kind, Line, Token};
 use chip_properties::near::{REGISTERS, is_like_register, undefined_sentence};
 use std::alloc::{AllocError, Global};
 
-/// A line with a fault, and its words.
+/// A line with a fault, and its tokens in upper case.
 #[derive(Clone, Copy)]
 struct FaultyLine<'a> {
     line: &'a LineView<'a>,
-    /// The text from the place of the fault on.
+    /// The text that begins at the place of the fault.
     text: &'a [u8],
     words: &'a [Word<'a>],
-    /// The words from the place of the fault on.
+    /// The words that begin at or after the place of the fault.
     rest: &'a [Word<'a>],
 }
 
-/// The lines of help for a fault at a place of a line, whose tokens are given.
+/// The lines of help for a fault at a place of a line with these tokens.
 pub(crate) fn advice_on(
     alloc: Global,
     known: &Known,
@@ -78,7 +78,7 @@ fn push_fault_advice(
     }
 }
 
-/// Adds how to use an address, if the line has a name of an address where a smaller value belongs.
+/// Adds help for the line if it uses the name of an address where a smaller value belongs.
 fn push_address_help(
     alloc: Global,
     hints: &mut Vec<Hint>,
@@ -112,7 +112,7 @@ fn push_address_help(
     }
 }
 
-/// Adds help with a fault that depends on its own line only.
+/// Adds help for a fault that depends on its own line only.
 fn push_line_advice(
     alloc: Global,
     hints: &mut Vec<Hint>,
@@ -140,7 +140,7 @@ fn push_line_advice(
     }
 }
 
-/// The help with a fault that is the same for every line, if there is one.
+/// The help for a fault, if it is the same for every line.
 fn sentence_for(fault: Fault) -> Option<&'static str> {
     match fault {
         Fault::UnfinishedString => Some("a text ends with the quote that it begins with"),
@@ -155,7 +155,7 @@ fn sentence_for(fault: Fault) -> Option<&'static str> {
     }
 }
 
-/// Adds help with bytes that begin no token.
+/// Adds help for bytes that begin no token.
 fn bad_character(
     alloc: Global,
     hints: &mut Vec<Hint>,
@@ -190,8 +190,8 @@ fn bad_character(
     }
 }
 
-/// The help with a byte that begins no token, if the first word of its statement says more than the byte
-/// does. `text` is the line from the byte on.
+/// The help for a byte that begins no token, if the first word of the statement explains the fault
+/// better than the byte does. `text` is the line from that byte on.
 fn sentence_for_statement(text: &[u8], first: &[u8]) -> Option<&'static str> {
     match (first, text) {
         (b"*", _) => Some(ORIGIN),
@@ -204,7 +204,7 @@ fn sentence_for_statement(text: &[u8], first: &[u8]) -> Option<&'static str> {
     }
 }
 
-/// The help if a line shows that the file is not plain text.
+/// The help for a line that shows that the file is not plain text.
 fn sentence_for_file(line: &[u8]) -> Option<&'static str> {
     if line.starts_with(&[239, 187, 191]) {
         return Some("the file begins with a byte order mark; save it without one");
@@ -225,8 +225,8 @@ fn begins_with(text: &[u8], front: &[u8]) -> bool {
     }
 }
 
-/// The help with a byte that begins no token. `text` is the line from that byte on, and `rest` the words
-/// of `text`.
+/// The help for a byte that begins no token. `text` is the line from that byte on, and `rest`
+/// contains the words of `text`.
 fn sentence_for_character(text: &[u8], rest: &[Word<'_>]) -> Option<&'static str> {
     match (text, rest) {
         ([b'#', ..], _) if begins_with(text, b"#define") => {
@@ -274,7 +274,7 @@ fn sentence_for_character(text: &[u8], rest: &[Word<'_>]) -> Option<&'static str
     }
 }
 
-/// Adds help with a byte that a name can't have, in the name that a line defines.
+/// Adds help for a byte that a name can't contain, in the name that a line defines.
 fn push_wrong_byte(alloc: Global, hints: &mut Vec<Hint>, byte: u8) -> Result<(), AllocError> {
     let parts: &[&[u8]] = &[
         b"a name consists of letters, digits and `_`, and can't contain `",
@@ -284,7 +284,7 @@ fn push_wrong_byte(alloc: Global, hints: &mut Vec<Hint>, byte: u8) -> Result<(),
     push_help(alloc, hints, parts)
 }
 
-/// Adds how to write a number that is written as in another assembler, with these digits.
+/// Adds help that shows how to write a number of another assembler that has these digits.
 fn push_other_number(
     alloc: Global,
     hints: &mut Vec<Hint>,
@@ -296,7 +296,7 @@ fn push_other_number(
     push_help(alloc, hints, &[front.as_bytes(), digits])
 }
 
-/// Adds the value of the line's first number with a `$`, if the number at fault has a `$` too.
+/// If the number at fault begins with `$`, adds the value of the line's first number that begins with `$`.
 fn push_binary_note(
     alloc: Global,
     hints: &mut Vec<Hint>,
@@ -316,7 +316,7 @@ fn push_binary_note(
     Ok(())
 }
 
-/// The value that the digits of a binary number would have in hexadecimal. A full stop counts as a 0.
+/// The value of a binary number's digits, read as hexadecimal. A full stop counts as a 0.
 fn hexadecimal_value(digits: &[u8]) -> u64 {
     let mut value = 0u64;
     for digit in digits {
@@ -326,7 +326,7 @@ fn hexadecimal_value(digits: &[u8]) -> u64 {
     value
 }
 
-/// Whether a colon follows the first word at fault, and a label comes before that word.
+/// Whether the first word at fault is a label and follows another label.
 fn has_second_label(faulty: &FaultyLine<'_>) -> bool {
     match faulty.rest {
         [_, colon, ..] => colon.text == b":".as_slice() && faulty.rest.len() < faulty.words.len(),
@@ -334,7 +334,7 @@ fn has_second_label(faulty: &FaultyLine<'_>) -> bool {
     }
 }
 
-/// Adds help with an unknown word that begins a statement.
+/// Adds help for an unknown word that begins a statement.
 fn unknown_word(
     alloc: Global,
     hints: &mut Vec<Hint>,
@@ -390,8 +390,8 @@ fn unknown_word(
     }
 }
 
-/// Adds an example for a statement that begins with a register or another part of the machine. `rest` are
-/// the words of the statement.
+/// Adds an example for a statement that begins with a register or another part of the machine.
+/// `rest` contains the words of the statement.
 fn push_example<'a>(
     alloc: Global,
     hints: &mut Vec<Hint>,
@@ -412,8 +412,8 @@ fn push_example<'a>(
     }
 }
 
-/// Adds help with a word that was meant as an instruction or a directive. If the word may also be a label,
-/// help is added only for an instruction or a directive that can have no operands.
+/// Adds help for a word that was probably meant as an instruction or a directive. If the word may
+/// also be a label, help is added only if the instruction or directive can have no operands.
 fn push_meant(
     alloc: Global,
     hints: &mut Vec<Hint>,
@@ -429,7 +429,7 @@ fn push_meant(
     }
 }
 
-/// Adds help with a word of another assembler after a full stop.
+/// Adds help for a full stop and a word of another assembler.
 fn push_other_word(alloc: Global, hints: &mut Vec<Hint>, word: &[u8]) -> Result<(), AllocError> {
     match other_word(word) {
         Some(ours) => {
@@ -440,7 +440,7 @@ fn push_other_word(alloc: Global, hints: &mut Vec<Hint>, word: &[u8]) -> Result<
     }
 }
 
-/// Adds how to write a word of another assembler here.
+/// Adds help that shows how a word of another assembler is written here.
 fn push_written(
     alloc: Global,
     hints: &mut Vec<Hint>,
@@ -454,15 +454,15 @@ fn push_written(
     )
 }
 
-/// Whether a line of these words would be valid with a colon after the first word. `written` is the first
-/// word as it is written, and `behind` the text after it.
+/// Whether a line of these words would be valid with a colon after the first word. `written` is the
+/// first word in its original case, and `behind` the text after it.
 fn reads_as_label(
     alloc: Global,
     words: &[Word<'_>],
     written: &[u8],
     behind: &[u8],
 ) -> Result<bool, AllocError> {
-    // the colon replaces the blank between the two words, so that the line gets no longer
+    // the colon replaces the blank between the two words, so that the line doesn't become longer
     let behind = match words {
         [_] => b"".as_slice(),
         [_, next, ..] if next.kind == Kind::Word => behind.get(1..).unwrap_or(&[]),
@@ -480,7 +480,7 @@ fn reads_as_label(
     }
 }
 
-/// Adds help with a word that can't be a name. `rest` are the words from it on.
+/// Adds help for a word that can't be a name, which is the first word in `rest`.
 fn bad_name(alloc: Global, hints: &mut Vec<Hint>, rest: &[Word<'_>]) -> Result<(), AllocError> {
     if push_mistake(alloc, hints, rest)? {
         return Ok(());
@@ -507,7 +507,7 @@ fn bad_name(alloc: Global, hints: &mut Vec<Hint>, rest: &[Word<'_>]) -> Result<(
     }
 }
 
-/// Whether some words begin with `=`, `:=`, EQU or `: EQU`.
+/// Whether the words begin with `=`, `:=`, EQU or `: EQU`.
 fn is_assignment(words: &[Word<'_>]) -> bool {
     match words {
         [Word { text: b":", .. }, equ, ..] | [equ, ..] => is_one_of(equ.text, &["=", "EQU"]),
@@ -515,7 +515,7 @@ fn is_assignment(words: &[Word<'_>]) -> bool {
     }
 }
 
-/// Adds help with a name that already has a value. `rest` are the words from it on.
+/// Adds help for a name that already has a value, which is the first word in `rest`.
 fn defined_twice(
     alloc: Global,
     hints: &mut Vec<Hint>,
@@ -531,7 +531,7 @@ fn defined_twice(
     }
 }
 
-/// Adds help with a name without a value.
+/// Adds help for a name without a value.
 fn undefined_name(
     alloc: Global,
     hints: &mut Vec<Hint>,
@@ -565,7 +565,7 @@ fn undefined_name(
     }
 }
 
-/// Adds a note on why the line that begins with a name isn't active.
+/// Adds a note that explains why the line that begins with a name isn't active.
 fn push_skipped_note(
     alloc: Global,
     hints: &mut Vec<Hint>,
@@ -582,8 +582,8 @@ fn push_skipped_note(
     push_note(alloc, hints, &[name, why.as_bytes()])
 }
 
-/// Adds a note on the line of a name: the name, the text before the line's number, the number, and the
-/// text after it.
+/// Adds a note about the line of a name: the name, the text `verb`, the line's number, and the text
+/// `end`.
 fn push_line_note(
     alloc: Global,
     hints: &mut Vec<Hint>,
@@ -596,8 +596,8 @@ fn push_line_note(
     push_note(alloc, hints, &[name, line.as_bytes()])
 }
 
-/// Adds help with a name that no other line begins with. `words` are the words of its line, and `rest` the
-/// words from the name on.
+/// Adds help for a name that begins no other line. `words` are the words of its line, and `rest`
+/// begins with the name.
 fn unknown_name(
     alloc: Global,
     hints: &mut Vec<Hint>,
@@ -619,7 +619,7 @@ fn unknown_name(
     }
 }
 
-/// Adds help with a directive that this assembler doesn't have.
+/// Adds help for a directive that this assembler doesn't support.
 fn not_in_profile(
     alloc: Global,
     hints: &mut Vec<Hint>,

@@ -1,4 +1,4 @@
-//! The answer to a property, as it is printed.
+//! Prints the answer to a property.
 ghost use Rattle.std.specs.Prelude.{◌≡◌, ◌++◌, OnOk};
 ghost use Rattle.std.specs.Fmt.{decimal};
 ghost use Rattle.std.specs.List.{flat_map};
@@ -21,16 +21,16 @@ pub enum Scope {
     Anything,
 }
 
-/// The answer to a property of this kind.
+/// The answer to a property of one kind.
 #[derive(Clone, Copy)]
 pub struct PropertyAnswer<'a> {
     pub kind: Kind,
     pub outcome: &'a Outcome,
-    /// The machines that the answer covers. A scope beyond `AtRate` means a proof, whatever the outcome says.
+    /// The machines that the answer covers. If it is not `AtRate`, the answer is a proof, whatever the outcome is.
     pub scope: Scope,
 }
 
-/// The place of a property: the name of the source, the number of its line, and its text.
+/// The place of a property: the name of the source, the line number, and the property's text.
 #[derive(Clone, Copy)]
 pub struct PropertyPlace<'a> {
     pub name: &'a [u8],
@@ -141,7 +141,7 @@ pub fn is_bad(kind: Kind, outcome: &Outcome) -> bool
     }
 }
 
-/// The words for a property that some script breaks or reaches.
+/// The words for a property that a script breaks or reaches.
 fn met_words(kind: Kind) -> &'static [u8]
     ensures { result.now ≡ met_words kind }
 {
@@ -152,7 +152,7 @@ fn met_words(kind: Kind) -> &'static [u8]
     }
 }
 
-/// The words for a property that no script breaks or reaches up to a step.
+/// The words for a property that no script breaks or reaches within a number of steps.
 fn unmet_words(kind: Kind) -> &'static [u8]
     ensures { result.now ≡ unmet_words kind }
 {
@@ -179,7 +179,7 @@ fn push_unmet(text: &mut Vec<u8>, kind: Kind, step: u64) -> Result<(), AllocErro
     push_decimal(text, step)
 }
 
-/// The words for a property that no script ever breaks or reaches.
+/// The words for a property that no script can ever break or reach.
 fn proved_words(kind: Kind) -> &'static [u8]
     ensures { result.now ≡ proved_words kind }
 {
@@ -190,7 +190,7 @@ fn proved_words(kind: Kind) -> &'static [u8]
     }
 }
 
-/// The words that follow a proof and say which machines it covers.
+/// The words that follow a proof and state which machines it covers.
 fn scope_words(scope: Scope) -> &'static [u8]
     ensures { result.now ≡ scope_words scope }
 {
@@ -211,7 +211,7 @@ fn push_never(text: &mut Vec<u8>, kind: Kind, scope: Scope) -> Result<(), AllocE
     text.extend_from_slice(scope_words(scope))
 }
 
-/// Appends the members of the JSON object that hold the steps and the key events.
+/// Appends the members of the JSON object that contain the steps and the key events.
 fn push_members(text: &mut Vec<u8>, outcome: &Outcome) -> Result<(), AllocError>
     ensures { OnOk result (text.new.items ≡ text.old.items ++ answer_members outcome.now) }
 {

@@ -1,21 +1,21 @@
-//! Recognizing a source that was written for Octo or another assembler.
+//! Recognizes a source that was written for Octo or another assembler.
 
 use crate::missing::missing_word;
 use crate::other_assemblers::{is_other_number, other_word};
 use crate::words::{Word, has_twice, is_one_of, statement_of};
 
-/// The number of lines that must look foreign before the note is printed.
+/// The number of lines that must look foreign before a note is printed.
 const ENOUGH: usize = 3;
 
-/// The note on a source that was written for Octo.
+/// The note about a source that was written for Octo.
 const OCTO: &str =
     "this looks like a source of Octo; docs/LANGUAGE.md, \"You know Octo\", lists what is written differently here";
 
-/// The note on a source that was written for another assembler.
+/// The note about a source that was written for another assembler.
 const ANOTHER: &str =
     "this looks like a source of another assembler; docs/LANGUAGE.md, \"You know another assembler\", lists what is written differently here";
 
-/// Words that often begin a line in Octo, and seldom begin a line in other assemblers.
+/// Words that often begin a line in Octo, but seldom in other assemblers.
 const OCTO_WORDS: &[&str] = &[
     ":",
     "#",
@@ -34,7 +34,7 @@ const OCTO_WORDS: &[&str] = &[
     "BUZZER",
 ];
 
-/// The numbers of lines with a fault that look as in Octo, and as in other assemblers.
+/// The number of faulty lines that look like Octo, and the number of those that look like another assembler.
 #[derive(Clone, Copy)]
 pub(crate) struct Tally {
     /// The number of the first line with a fault; 0 if no line has been counted yet.
@@ -53,7 +53,7 @@ impl Tally {
         }
     }
 
-    /// Counts a line with a fault, which has this number.
+    /// Counts the faulty line with this number.
     pub(crate) fn add(&mut self, number: usize, words: &[Word<'_>]) {
         if self.first_line == 0 {
             self.first_line = number;
@@ -66,8 +66,8 @@ impl Tally {
         }
     }
 
-    /// The note on the whole source, which is printed below its first fault. Returns nothing if `number` is
-    /// not the line of that fault, or if too few lines look foreign.
+    /// The note about the whole source, which is printed below its first fault. Returns nothing if
+    /// the first fault is on another line than `number`, or if too few lines look foreign.
     pub(crate) fn note_on(self, number: usize) -> Option<&'static str> {
         if number != self.first_line {
             None
@@ -81,7 +81,7 @@ impl Tally {
     }
 }
 
-/// Whether a line of these words looks like a line of Octo.
+/// Whether a line of these words looks like Octo.
 fn is_of_octo(words: &[Word<'_>]) -> bool {
     let begins_so = match words.first() {
         Some(first) => is_one_of(first.text, OCTO_WORDS) || first.text.starts_with(b"0X"),
@@ -105,7 +105,7 @@ fn is_assignment(pair: &[Word<'_>]) -> bool {
     }
 }
 
-/// Whether a line of these words looks like a line of another assembler.
+/// Whether a line of these words looks like another assembler.
 fn is_of_another(words: &[Word<'_>]) -> bool {
     let begins_so = match statement_of(words).first() {
         Some(first) => {

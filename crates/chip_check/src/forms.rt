@@ -5,9 +5,9 @@ use crate::words::{Word, is_comma, is_one_of, is_register, is_special};
 use chip_properties::near::{fewest_edits, most_edits};
 use std::alloc::{AllocError, Global};
 
-/// The instructions and directives with their forms. A form is the word and its operands: `Vx` and `Vy`
-/// are registers, `nibble` is a value from 0 to 15, `byte` a value from -128 to 255, and `addr` a value
-/// from 0 to 4095.
+/// The instructions and directives with their forms. A form is the word and its operands: `Vx` and
+/// `Vy` are registers, `nibble` is a value from 0 to 15, `byte` is a value from -128 to 255, and
+/// `addr` is a value from 0 to 4095.
 const HEADINGS: &[(&str, &[&str])] = &[
     ("CLS", &["CLS"]),
     ("RET", &["RET"]),
@@ -79,11 +79,11 @@ const HEADINGS: &[(&str, &[&str])] = &[
     ("DEFINE", &["DEFINE name"]),
 ];
 
-/// The most forms that a line of help shows.
+/// The maximum number of forms in a line of help.
 const MOST_SHOWN: usize = 5;
 
-/// The highest nearness of a form: the first operand counts twice, and no form has more than three
-/// operands.
+/// The highest possible nearness of a form. The first operand counts twice, and no form has more
+/// than three operands.
 const NEAREST: usize = 4;
 
 /// The forms of an instruction or a directive; empty for other words.
@@ -106,7 +106,7 @@ pub(crate) fn is_heading(word: &[u8]) -> bool {
     !forms_of(word).is_empty()
 }
 
-/// Whether a word has a meaning of its own, so that it can't be a name.
+/// Whether a word has a predefined meaning, so that it can't be a name.
 pub(crate) fn is_reserved(word: &[u8]) -> bool {
     is_register(word)
         || is_special(word)
@@ -114,7 +114,7 @@ pub(crate) fn is_reserved(word: &[u8]) -> bool {
         || is_one_of(word, &["USED", "INCLUDE", "UNDEF"])
 }
 
-/// The instruction or directive whose spelling is nearest to a word, if one is near enough.
+/// The instruction or directive whose spelling is closest to a word, if one is close enough.
 pub(crate) fn near_heading(word: &[u8]) -> Option<&str> {
     let mut most = most_edits(word);
     let mut nearest = None;
@@ -130,8 +130,8 @@ pub(crate) fn near_heading(word: &[u8]) -> Option<&str> {
     nearest
 }
 
-/// Adds the first forms of an instruction or a directive, nearest to these operands first. Adds nothing
-/// for other words.
+/// Adds the first forms of an instruction or a directive, ordered by how well they fit these
+/// operands. Adds nothing for other words.
 pub(crate) fn push_forms(
     alloc: Global,
     hints: &mut Vec<Hint>,
@@ -165,8 +165,8 @@ fn push_first_forms(
     }
 }
 
-/// The forms of an instruction or a directive, with the forms first that are nearest to the operands
-/// written after it; empty for other words.
+/// The forms of an instruction or a directive, with the best fit for the operands of the line
+/// first; empty for other words.
 fn forms_by_nearness(
     alloc: Global,
     word: &[u8],
@@ -183,7 +183,7 @@ fn forms_by_nearness(
     Ok(forms)
 }
 
-/// The number of operands that fit a form in their places, where the first operand counts twice.
+/// The number of operands that fit a form at their positions; the first operand counts twice.
 fn nearness(form: &str, operands: &[Word<'_>]) -> usize {
     let Some((_, wanted)) = form.split_once(' ') else {
         return 0;
@@ -199,10 +199,10 @@ fn nearness(form: &str, operands: &[Word<'_>]) -> usize {
     near
 }
 
-/// The words in a form that are placeholders for an expression.
+/// The placeholders for an expression in a form.
 const VALUES: &[&str] = &["nibble", "byte", "addr", "value"];
 
-/// Whether an operand fits a form in its place.
+/// Whether an operand fits the operand `wants` of a form.
 fn fits(wants: &[u8], given: &[Word<'_>]) -> bool {
     match given {
         [] => false,
@@ -216,7 +216,7 @@ fn fits(wants: &[u8], given: &[Word<'_>]) -> bool {
     }
 }
 
-/// Whether an operand of one token fits a form in its place.
+/// Whether an operand of a single token fits the operand `wants` of a form.
 fn fits_word(wants: &[u8], gives: &[u8]) -> bool {
     match wants {
         b"Vx" | b"Vy" => is_register(gives),

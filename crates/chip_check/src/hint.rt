@@ -6,9 +6,9 @@ use std::fmt::Display;
 /// The kind of a line of help, which decides how the line begins.
 #[derive(Clone, Copy)]
 pub(crate) enum HintKind {
-    /// Says what to write; begins with `help:`.
+    /// States what to write; begins with `help:`.
     Help,
-    /// Says what else is known about the fault; begins with `note:`.
+    /// States what else is known about the fault; begins with `note:`.
     Note,
 }
 
@@ -19,7 +19,7 @@ pub(crate) struct Hint {
     pub(crate) sentence: Vec<u8>,
 }
 
-/// Adds a line that says what to write. The sentence is given in parts.
+/// Adds a line that states what to write. The sentence is given in parts.
 pub(crate) fn push_help(
     alloc: Global,
     hints: &mut Vec<Hint>,
@@ -28,7 +28,7 @@ pub(crate) fn push_help(
     push(alloc, hints, HintKind::Help, parts)
 }
 
-/// Adds a line that says what else is known. The sentence is given in parts.
+/// Adds a line that states what else is known. The sentence is given in parts.
 pub(crate) fn push_note(
     alloc: Global,
     hints: &mut Vec<Hint>,
@@ -48,7 +48,7 @@ fn push(
     Ok(())
 }
 
-/// Adds a line that says what to write, if there is a sentence.
+/// Adds a line that states what to write, if there is a sentence.
 pub(crate) fn push_sentence(
     alloc: Global,
     hints: &mut Vec<Hint>,
@@ -60,7 +60,7 @@ pub(crate) fn push_sentence(
     }
 }
 
-/// Adds a line that says what to write. The sentence is a formatted value.
+/// Adds a line that states what to write. The sentence is a formatted value.
 pub(crate) fn push_formatted<S: Display + Drop>(
     alloc: Global,
     hints: &mut Vec<Hint>,

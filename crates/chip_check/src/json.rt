@@ -1,4 +1,4 @@
-//! A finding as a JSON object on a line of its own.
+//! Prints a finding as a JSON object on a separate line.
 
 ghost use Rattle.std.specs.Prelude.{◌≡◌, ◌≤◌, ◌+◌, ◌++◌, OnOk};
 ghost use Rattle.std.specs.List.{flat_map};
@@ -11,7 +11,7 @@ use crate::hint::{Hint, HintKind};
 use crate::parts::push_all;
 use std::alloc::{AllocError, Global};
 
-/// Adds the object of a finding in the line of this number.
+/// Adds the object of a finding in the line with this number.
 #[tactic(auto, unfolding(crate::specs::Json::object_with))]
 pub(crate) fn push_object(
     alloc: Global,
@@ -36,7 +36,7 @@ pub(crate) fn push_object(
     Ok(())
 }
 
-/// Adds the beginning of an object up to the string of its message: the place and the code.
+/// Adds the beginning of an object: its place, its code, and the key of its message.
 fn push_place(
     alloc: Global,
     text: &mut Vec<u8>,
@@ -56,7 +56,7 @@ fn push_place(
     Ok(())
 }
 
-/// Adds lines of help as strings, with a comma between each two.
+/// Adds the lines of help as strings, separated by commas.
 fn push_hint_strings(alloc: Global, text: &mut Vec<u8>, hints: &[Hint]) -> Result<(), AllocError>
     ensures { OnOk result (text.new.items ≡ text.old.items ++ hint_strings hints.now) }
 {
@@ -80,7 +80,7 @@ fn push_hint_string(alloc: Global, text: &mut Vec<u8>, hint: &Hint) -> Result<()
     push_quoted(alloc, text, &line)
 }
 
-/// The text before the sentence of a line of help: `note: ` for a note, and nothing otherwise.
+/// The text before the sentence of a line of help: `note: ` for a note, and nothing for help.
 fn hint_prefix(kind: HintKind) -> &'static [u8]
     ensures { result.now ≡ hint_prefix kind }
 {
@@ -90,7 +90,7 @@ fn hint_prefix(kind: HintKind) -> &'static [u8]
     }
 }
 
-/// Adds some bytes as a string in quotes, where U+FFFD replaces each sequence of bytes that is not UTF-8.
+/// Adds bytes as a string in quotes, in which U+FFFD replaces each sequence of bytes that is not UTF-8.
 ///
 /// # Errors
 ///
@@ -106,7 +106,7 @@ pub fn push_quoted(alloc: Global, text: &mut Vec<u8>, bytes: &[u8]) -> Result<()
     Ok(())
 }
 
-/// Adds some bytes as the contents of a string, with escapes.
+/// Adds bytes as the contents of a string, with escapes.
 fn push_escaped(text: &mut Vec<u8>, bytes: &[u8]) -> Result<(), AllocError>
     ensures { OnOk result (text.new.items ≡ text.old.items ++ flat_map escaped bytes.now) }
 {
@@ -129,7 +129,7 @@ fn push_escaped_byte(text: &mut Vec<u8>, byte: u8) -> Result<(), AllocError>
     }
 }
 
-/// The hexadecimal digit of a number below 16, in lower case.
+/// The hexadecimal digit of a number below 16, in lowercase.
 pub(crate) fn hex_digit(digit: u8) -> u8
     requires { digit ≤ 15 }
     ensures { result ≡ hex_digit digit }

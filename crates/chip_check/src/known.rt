@@ -1,4 +1,4 @@
-//! The names of a source that lines of help look up.
+//! The names that lines of help look up in a source.
 
 ghost use Rattle.std.specs.Prelude.{◌≡◌, ◌++◌, ◌∷◌, [], IfOk, OnOk};
 ghost use Rattle.chip_symbols.specs.Names.{lookup_name, values_of};
@@ -13,7 +13,7 @@ use chip_properties::near::{fewest_edits, most_edits};
 use indexmap::IndexMap;
 use std::alloc::{AllocError, Global};
 
-/// A name that begins a line with a fault, so that the line gives it no value.
+/// A name that begins a faulty line, which therefore doesn't define the name.
 #[derive(Drop)]
 pub(crate) struct Lost {
     name: Vec<u8>,
@@ -24,30 +24,30 @@ pub(crate) struct Lost {
 #[derive(Drop)]
 pub(crate) struct Skipped {
     name: Vec<u8>,
-    /// The number of its line.
+    /// The number of the line that the name begins.
     pub(crate) line: usize,
-    /// The number of the line with the END before it, or 0 if an IF leaves the line out.
+    /// The number of the line of the END above, or 0 if an IF excludes the line.
     pub(crate) end: usize,
 }
 
-/// Symbols by their names in upper case.
+/// Symbols by name, in upper case.
 type Symbols = IndexMap<Vec<u8>, Symbol, NameHasher>;
 
 /// The names of a source.
 #[derive(Drop)]
 pub(crate) struct Known {
-    /// The names with a value, in the order of lines.
+    /// The names with a value, in line order.
     symbols: Symbols,
-    /// The names that begin a line with a fault, in the order of lines.
+    /// The names that begin a faulty line, in line order.
     lost: Vec<Lost>,
-    /// The names that begin a line that isn't active, in the order of lines.
+    /// The names that begin a line that isn't active, in line order.
     skipped: Vec<Skipped>,
-    /// The numbers of lines with a fault that look as in Octo, and as in other assemblers.
+    /// The number of faulty lines that look like Octo, and the number of those that look like another assembler.
     tally: Tally,
 }
 
-/// The most pairs of a line with a fault and a name. In a source with more pairs, no name is compared with
-/// others, so that help takes little time.
+/// The maximum number of pairs of a faulty line and a name. If a source has more pairs, the
+/// spellings of names aren't compared, because that would take too long.
 const MOST_PAIRS: usize = 100_000;
 
 impl Names for Known {
@@ -81,7 +81,7 @@ impl Known {
         })
     }
 
-    /// The value and the line of a name, which is given in upper case.
+    /// The value and the line of a name in upper case.
     pub(crate) fn find(&self, name: &[u8]) -> Option<Symbol>
         ensures { result ≡ lookup_name (listed self.now.symbols.entries) name.now }
     {
@@ -91,7 +91,7 @@ impl Known {
         }
     }
 
-    /// The number of the line that gives a value to a name, which is given in upper case.
+    /// The number of the line that defines a name, which is given in upper case.
     pub(crate) fn line_of(&self, name: &[u8]) -> Option<usize> {
         match self.find(name) {
             Some(symbol) => Some(symbol.line),
@@ -99,7 +99,7 @@ impl Known {
         }
     }
 
-    /// The number of the first line with a fault that begins with a name.
+    /// The number of the first faulty line that begins with a name.
     pub(crate) fn lost_line_of(&self, name: &[u8]) -> Option<usize> {
         for lost in &self.lost {
             if lost.name.as_slice() == name {
@@ -109,19 +109,19 @@ impl Known {
         None
     }
 
-    /// The first line that isn't active and begins with a name.
+    /// The first inactive line that begins with a name.
     pub(crate) fn skipped_line_of(&self, name: &[u8]) -> Option<&Skipped> {
         self.skipped
             .iter()
             .find(|skipped| skipped.name.as_slice() == name)
     }
 
-    /// The note on the whole source that is printed below the fault of a line, if that fault is the first.
+    /// The note about the whole source, if the line with this number has the first fault.
     pub(crate) fn note_on(&self, number: usize) -> Option<&'static str> {
         self.tally.note_on(number)
     }
 
-    /// The name whose spelling is nearest to a word, if one is near enough.
+    /// The name whose spelling is closest to a word, if one is close enough.
     pub(crate) fn near_name(&self, word: &[u8]) -> Option<&[u8]> {
         if self.lost.len().saturating_mul(self.symbols.len()) > MOST_PAIRS {
             return None;
@@ -141,7 +141,7 @@ impl Known {
     }
 }
 
-/// Symbols by their names. If several symbols have one name, the first one counts.
+/// Symbols by name. If several symbols have the same name, the first one is used.
 fn by_name(alloc: Global, symbols: &[(Bytes, Symbol)]) -> Result<Symbols, AllocError>
     ensures { IfOk result (λ found. Agree (listed found.entries) symbols.now) }
 {
@@ -152,7 +152,7 @@ fn by_name(alloc: Global, symbols: &[(Bytes, Symbol)]) -> Result<Symbols, AllocE
     Ok(found)
 }
 
-/// Adds the symbol of a name, unless the name already has one.
+/// Adds the symbol for a name, unless the name already has one.
 fn add_last(
     alloc: Global,
     symbols: &mut Symbols,
@@ -171,7 +171,7 @@ fn add_last(
     }
 }
 
-/// The names that begin lines with a fault, in the order of lines. Counts each of these lines in `tally`.
+/// The names that begin faulty lines, in line order. Counts each of these lines in `tally`.
 fn lost_names(alloc: Global, source: &Source, tally: &mut Tally) -> Result<Vec<Lost>, AllocError> {
     let mut lost = Vec::new(alloc);
     if source.image().is_some() {
@@ -187,7 +187,7 @@ fn lost_names(alloc: Global, source: &Source, tally: &mut Tally) -> Result<Vec<L
     Ok(lost)
 }
 
-/// Adds the word that begins a line, or the one after DEFINE, and counts the line.
+/// Adds the word that begins a faulty line, or the word after DEFINE, and counts the line.
 fn push_front_name(
     alloc: Global,
     lost: &mut Vec<Lost>,
@@ -205,7 +205,7 @@ fn push_front_name(
     Ok(())
 }
 
-/// The word that begins a line, or the one after DEFINE.
+/// The word that begins a line, or the word after DEFINE.
 fn front_name<'a>(words: &[Word<'a>]) -> Option<&'a [u8]> {
     match words {
         [first, name, ..] if first.text == b"DEFINE".as_slice() => Some(name.text),
@@ -214,7 +214,7 @@ fn front_name<'a>(words: &[Word<'a>]) -> Option<&'a [u8]> {
     }
 }
 
-/// The names that begin lines that aren't active, in the order of lines.
+/// The names that begin inactive lines, in line order.
 fn skipped_names(alloc: Global, source: &Source) -> Result<Vec<Skipped>, AllocError> {
     let mut skipped = Vec::new(alloc);
     if source.image().is_some() {
@@ -233,7 +233,7 @@ fn skipped_names(alloc: Global, source: &Source) -> Result<Vec<Skipped>, AllocEr
     Ok(skipped)
 }
 
-/// Whether a line is END.
+/// Whether a line is an END directive.
 fn is_end(line: &LineView<'_>) -> bool {
     matches!(
         line.reading(),
@@ -244,7 +244,7 @@ fn is_end(line: &LineView<'_>) -> bool {
     )
 }
 
-/// Adds the name that begins a line that isn't active. `end` is the number of the line with END, or 0.
+/// Adds the name that begins an inactive line. `end` is the number of the line with END, or 0.
 fn push_skipped(
     alloc: Global,
     skipped: &mut Vec<Skipped>,

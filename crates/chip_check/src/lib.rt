@@ -1,5 +1,5 @@
-//! The faults and warnings of a source, as compilers print them (place, sentence, the line, and help)
-//! and as JSON, and the answers to its properties.
+//! Prints the faults and warnings of a source as compilers do (place, sentence, line, and help) and
+//! as JSON, and prints the answers to its properties.
 #![tactic(auto)]
 
 mod advice;

@@ -1,9 +1,9 @@
-//! Instructions that other machines and assemblers have and this machine lacks.
+//! Instructions that other machines and assemblers have, but this machine doesn't.
 
 use crate::words::is_one_of;
 
-/// Lines of help that say what to write instead of a missing instruction, each with the words for that
-/// instruction elsewhere.
+/// Lines of help that state what to write instead of a missing instruction. Each comes with the
+/// words that other assemblers use for that instruction.
 const MISSING: &[(&str, &[&str])] = &[
     (
         "no instruction scrolls up; SCD, SCR and SCL scroll down, right and left",
@@ -80,7 +80,7 @@ const MISSING: &[(&str, &[&str])] = &[
     ),
 ];
 
-/// The line of help for a missing instruction, whose word is given in upper case; nothing for other words.
+/// The line of help for a missing instruction, given by its word in upper case; nothing for other words.
 pub(crate) fn missing_word(word: &[u8]) -> Option<&'static str> {
     for (sentence, others) in MISSING {
         if is_one_of(word, *others) {

@@ -1,4 +1,4 @@
-//! Whole lines that other languages write, and how to write them here.
+//! Whole lines in the syntax of other languages, and how to write them here.
 
 use crate::forms::is_reserved;
 use crate::hint::{Hint, push_help};
@@ -7,12 +7,12 @@ use chip_lang::Kind;
 use chip_properties::near::is_like_register;
 use std::alloc::{AllocError, Global};
 
-/// Statements that have no meaning here, and what to write instead. In a statement, `v` is a register, `n`
-/// a number or a name, `o` a register, a number or a name, `h` a text of one hexadecimal digit, `t` any
-/// text, and a `*` at the end is anything. In the help, `{0}` is the first word that matched `v`, `n`, `o`
-/// or `h`, and `{1}` the second one; for an `h` the value of the digit is shown.
+/// Statements that are not valid here, and what to write instead. In a statement, `v` stands for a
+/// register, `n` for a number or a name, `o` for a register, a number or a name, `h` for a text of one
+/// hexadecimal digit, `t` for any text, and a final `*` for any words. In the help, `{0}` is the first word
+/// that matched `v`, `n`, `o` or `h`, and `{1}` is the second one; an `h` is shown as the digit's value.
 const MISTAKES: &[(&str, &str)] = &[
-    // values that go through a register
+    // values that have to go through a register
     ("LD v , KEY", "the key wait is written K: LD {0}, K"),
     ("LD v , KEYS", "the key wait is written K: LD {0}, K"),
     (
@@ -185,7 +185,7 @@ const MISTAKES: &[(&str, &str)] = &[
         "CALL n ( *",
         "CALL takes no arguments; put them into registers first, then CALL {0}",
     ),
-    // random values
+    // random numbers
     (
         "LD v , RANDOM n",
         "RND gives a register a random value: RND {0}, {1}",
@@ -210,7 +210,7 @@ const MISTAKES: &[(&str, &str)] = &[
         "LD v , RAND",
         "RND gives a register a random value: RND {0}, 255",
     ),
-    // instructions that others spell out
+    // instructions under other names
     (
         "NOT v",
         "XOR with 255 flips all bits: LD VE, 255, then XOR {0}, VE",
@@ -356,8 +356,8 @@ const MISTAKES: &[(&str, &str)] = &[
     ),
 ];
 
-/// Adds what to write instead of a line of these words, if the line is a known mistake, and returns whether
-/// it is.
+/// If a line of these words is a known mistake, adds help that states what to write instead. Returns
+/// whether help was added.
 pub(crate) fn push_mistake(
     alloc: Global,
     hints: &mut Vec<Hint>,
@@ -373,7 +373,7 @@ pub(crate) fn push_mistake(
     Ok(false)
 }
 
-/// Whether some words match a statement of `MISTAKES`.
+/// Whether the words match a statement of `MISTAKES`.
 fn is_written(statement: &str, words: &[Word<'_>]) -> bool {
     let mut place = 0usize;
     for wanted in statement.split(' ') {
@@ -388,7 +388,7 @@ fn is_written(statement: &str, words: &[Word<'_>]) -> bool {
     place == words.len()
 }
 
-/// Whether a word matches a word of a statement of `MISTAKES`.
+/// Whether a word matches one word of a statement of `MISTAKES`.
 fn is_wanted(wanted: &[u8], word: &Word<'_>) -> bool {
     match wanted {
         b"v" => is_register(word.text),
@@ -410,7 +410,7 @@ const VALUES: [&str; 16] = [
     "0", "1", "2", "3", "4", "5", "6", "7", "8", "9", "10", "11", "12", "13", "14", "15",
 ];
 
-/// The value of a text of one hexadecimal digit, in decimal; nothing for other words.
+/// The value of a text of one hexadecimal digit, in decimal; nothing for other tokens.
 fn digit_in(word: &Word<'_>) -> Option<&'static [u8]> {
     let value = match (word.kind, word.text) {
         (Kind::Text, [_, digit @ b'0'..=b'9', _]) => *digit - b'0',
@@ -422,7 +422,7 @@ fn digit_in(word: &Word<'_>) -> Option<&'static [u8]> {
         .map(|written| written.as_bytes())
 }
 
-/// The text of a help, with words of the line in place of `{0}` and `{1}`.
+/// The sentence `help`, with words of the line in place of `{0}` and `{1}`.
 fn filled(
     alloc: Global,
     help: &str,
@@ -446,8 +446,8 @@ fn filled(
     Ok(sentence)
 }
 
-/// The word that is shown for a `v`, `n`, `o` or `h` of a statement, of which `before` others come first;
-/// empty if the statement has fewer.
+/// The word that is shown for the first `v`, `n`, `o` or `h` of a statement after `before` others;
+/// empty if there are too few.
 fn written_at<'a>(before: usize, statement: &str, words: &[Word<'a>]) -> &'a [u8] {
     let mut left = before;
     for (wanted, word) in statement.split(' ').zip(words) {

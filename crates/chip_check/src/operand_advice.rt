@@ -13,8 +13,8 @@ use chip_lang::{Body, Expr, Kind, Line, Operand, Pattern, eval};
 use chip_properties::near::{REGISTERS, is_like_register};
 use std::alloc::{AllocError, Global};
 
-/// Adds help with operands that fit no form. `words` are the words of the line, and `rest` the words from
-/// the place of the fault on.
+/// Adds help for operands that fit no form. `words` are the words of the line, and `rest` the words
+/// that begin at or after the place of the fault.
 pub(crate) fn wrong_operands(
     alloc: Global,
     hints: &mut Vec<Hint>,
@@ -47,7 +47,7 @@ pub(crate) fn wrong_operands(
     }
 }
 
-/// Adds the binary number whose digits a blank splits, if the words at fault begin with its two parts.
+/// Adds the whole binary number, if the words at fault begin with its two parts, split by a blank.
 fn push_split_binary(
     alloc: Global,
     hints: &mut Vec<Hint>,
@@ -67,12 +67,12 @@ fn push_split_binary(
     }
 }
 
-/// Whether a word consists of binary digits.
+/// Whether a word consists only of binary digits.
 fn is_binary(word: &[u8]) -> bool {
     word.iter().all(|byte| matches!(byte, b'0' | b'1'))
 }
 
-/// Whether a reserved word after an instruction or a directive was meant as a name.
+/// Whether a reserved word after an instruction or a directive was probably meant as a name.
 fn takes_name(heading: &[u8], word: &[u8]) -> bool {
     let is_part = is_register(word) || is_special(word);
     is_one_of(heading, &["IFDEF", "IFUND"])
@@ -88,7 +88,7 @@ fn parts_of<'a>(statement: &'a [Word<'a>]) -> (&'a [u8], &'a [Word<'a>]) {
     }
 }
 
-/// Adds the forms of an instruction or a directive, and for a SUB of a number how to write it with ADD.
+/// Adds the forms of an instruction or a directive. For a SUB of a number, also adds how to write it with ADD.
 fn forms_help(
     alloc: Global,
     hints: &mut Vec<Hint>,
@@ -107,7 +107,7 @@ fn forms_help(
     }
 }
 
-/// Adds help with a statement whose first word is at fault.
+/// Adds help for a statement whose first word is at fault.
 fn wrong_front(alloc: Global, hints: &mut Vec<Hint>, rest: &[Word<'_>]) -> Result<(), AllocError> {
     match rest {
         [Word { text: b"EQU", .. }, ..] => push_help(
@@ -148,10 +148,10 @@ fn wrong_front(alloc: Global, hints: &mut Vec<Hint>, rest: &[Word<'_>]) -> Resul
 /// Directives whose operands are not expressions.
 const WITHOUT_EXPRESSION: &[&str] = &["ALIGN", "DA", "IFDEF", "IFUND", "ELSE", "ENDIF", "END"];
 
-/// Directives that take one expression.
+/// Directives that have one expression as their operand.
 const OF_ONE_EXPRESSION: &[&str] = &["ORG", "DS", "EQU"];
 
-/// The help with the operand at fault, which is the first operand in `rest`.
+/// The help for the operand at fault, which is the first operand in `rest`.
 fn sentence_for(heading: &[u8], words: &[Word<'_>], rest: &[Word<'_>]) -> Option<&'static str> {
     let operand = rest.split(is_comma).next().unwrap_or(rest);
     if has_twice(b"<", words) || has_twice(b">", words) {
@@ -167,7 +167,7 @@ fn sentence_for(heading: &[u8], words: &[Word<'_>], rest: &[Word<'_>]) -> Option
     }
 }
 
-/// The help with a missing operand.
+/// The help for a missing operand.
 fn sentence_for_missing(words: &[Word<'_>], rest: &[Word<'_>]) -> &'static str {
     if !rest.is_empty() {
         return "an operand is missing before this comma";
@@ -187,18 +187,18 @@ fn is_part(operand: &[Word<'_>]) -> bool {
     }
 }
 
-/// The help with an instruction or a directive among operands.
+/// The help for an instruction or a directive among the operands.
 const ONE_INSTRUCTION: &str = "a line has one instruction; put the second one on a line of its own";
 
-/// The help with a sign that other assemblers write for the address of the line.
+/// The help for the sign that stands for the address of the line in other assemblers.
 pub(crate) const NO_HERE: &str =
     "no sign means the address of the line; give the line a label, as in HALT: JP HALT";
 
-/// The help with a sign or a word that gives the remainder of a division elsewhere.
+/// The help for a sign or a word that computes the remainder of a division in other languages.
 pub(crate) const NO_REMAINDER: &str =
     "no operator gives the remainder of a division; `& 7` gives the remainder of a division by 8";
 
-/// The help with an operand that the tokens at its beginning call for.
+/// The help for an operand, as far as its first tokens decide it.
 fn sentence_for_front(heading: &[u8], operand: &[Word<'_>]) -> Option<&'static str> {
     match operand {
         [first, ..] if first.kind == Kind::Text && first.text.len() != 3 => {
@@ -224,7 +224,7 @@ fn sentence_for_front(heading: &[u8], operand: &[Word<'_>]) -> Option<&'static s
     }
 }
 
-/// The help with tokens that are not an expression.
+/// The help for tokens that are not an expression.
 fn sentence_for_expression(operand: &[Word<'_>]) -> Option<&'static str> {
     for word in operand {
         let sentence = sentence_for_word(word.text);
@@ -235,7 +235,7 @@ fn sentence_for_expression(operand: &[Word<'_>]) -> Option<&'static str> {
     sentence_for_parentheses(operand)
 }
 
-/// The help with a token that no expression can contain.
+/// The help for a token that no expression can contain.
 fn sentence_for_word(word: &[u8]) -> Option<&'static str> {
     if matches!(word, b"[") {
         Some("only `[I]` reaches memory; LD I sets the address")
@@ -250,7 +250,7 @@ fn sentence_for_word(word: &[u8]) -> Option<&'static str> {
     }
 }
 
-/// The help with parentheses that don't match.
+/// The help for unbalanced parentheses.
 fn sentence_for_parentheses(operand: &[Word<'_>]) -> Option<&'static str> {
     let mut open = 0usize;
     for word in operand {
@@ -264,10 +264,10 @@ fn sentence_for_parentheses(operand: &[Word<'_>]) -> Option<&'static str> {
     (open > 0).then_some("each `(` needs its `)`")
 }
 
-/// The help with the `*` that other assemblers write for the address of the next line.
+/// The help for the `*` that other assemblers write for the address of the next line.
 pub(crate) const ORIGIN: &str = "ORG sets the address of the next line, as in ORG #200";
 
-/// The values that an operand can have: from `low` to `high`, both included.
+/// The values that an operand can have: `low` to `high`, inclusive.
 #[derive(Clone, Copy)]
 struct Bounds {
     low: i32,
@@ -297,7 +297,7 @@ fn bounds_of(pattern: Option<&Pattern>) -> Bounds {
     }
 }
 
-/// Adds the value and the range of the first operand of a line whose value is out of range.
+/// Adds the value and the range of a line's first operand that is out of range.
 pub(crate) fn out_of_range(
     alloc: Global,
     hints: &mut Vec<Hint>,
@@ -328,7 +328,7 @@ fn value_of(operand: Option<&Operand>) -> Option<&Expr> {
     }
 }
 
-/// Adds the value of an operand and the range that it has to lie in.
+/// Adds the value of an operand and the range that the value must lie in.
 fn push_bounds(
     alloc: Global,
     hints: &mut Vec<Hint>,

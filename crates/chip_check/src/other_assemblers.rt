@@ -1,9 +1,9 @@
-//! Numbers and words that other assemblers write, and what is written here instead.
+//! Numbers and words in the notation of other assemblers, and how to write them here.
 
 use crate::words::{Word, is_one_of};
 use chip_lang::Kind;
 
-/// A notation for numbers here.
+/// A notation for numbers in this assembler.
 pub(crate) struct Radix {
     /// The name of the notation, with an article.
     pub(crate) name: &'static str,
@@ -31,7 +31,7 @@ const HEXADECIMAL: Radix = Radix {
 };
 
 impl Radix {
-    /// Whether a text is at least one digit, and consists of digits of this notation.
+    /// Whether a text consists of one or more digits of this notation.
     fn has(&self, text: &[u8]) -> bool {
         for digit in text {
             if !self.digits.contains(digit) {
@@ -42,8 +42,8 @@ impl Radix {
     }
 }
 
-/// The notations for numbers elsewhere: the text before the digits, the text after them, and the notation
-/// here.
+/// The notations of other assemblers: the text before the digits, the text after them, and the
+/// notation to use here.
 const NOTATIONS: &[(&str, &str, &Radix)] = &[
     ("0X", "", &HEXADECIMAL),
     ("0O", "", &OCTAL),
@@ -54,8 +54,8 @@ const NOTATIONS: &[(&str, &str, &Radix)] = &[
     ("", "", &HEXADECIMAL),
 ];
 
-/// The radix and digits of the first of some words, in upper case, if the word is a number in the notation
-/// of another assembler.
+/// The radix and the digits of the first word, in upper case, if that word is a number in the
+/// notation of another assembler.
 pub(crate) fn other_number<'a>(words: &[Word<'a>]) -> Option<(&'static Radix, &'a [u8])> {
     match words {
         [Word { text: b"%", .. }, digits, ..] => {
@@ -66,12 +66,12 @@ pub(crate) fn other_number<'a>(words: &[Word<'a>]) -> Option<(&'static Radix, &'
     }
 }
 
-/// Whether a word is a number in a notation of another assembler, and not a token here.
+/// Whether a word is a number in the notation of another assembler, and not a token here.
 pub(crate) fn is_other_number(word: &Word<'_>) -> bool {
     matches!(word.kind, Kind::Bad(_)) && other_digits(word.text).is_some()
 }
 
-/// The radix and digits of a word that is a number in one of the notations.
+/// The radix and the digits of a word, if it is a number in one of the notations.
 fn other_digits(word: &[u8]) -> Option<(&'static Radix, &[u8])> {
     for (front, end, radix) in NOTATIONS {
         if let Some(rest) = word.strip_prefix(front.as_bytes()) {
@@ -84,7 +84,7 @@ fn other_digits(word: &[u8]) -> Option<(&'static Radix, &[u8])> {
     None
 }
 
-/// The words or forms for instructions and directives here, each with the words for it elsewhere.
+/// The words or forms for instructions and directives here, each with the words that other assemblers use.
 const OTHER_WORDS: &[(&str, &[&str])] = &[
     (
         "LD",
@@ -122,7 +122,7 @@ const OTHER_WORDS: &[(&str, &[&str])] = &[
     ("EXIT", &["HALT", "HLT", "STOP"]),
 ];
 
-/// The word or form here for a word of another assembler, which is given in upper case.
+/// The word or form to use here for a word of another assembler, which is given in upper case.
 pub(crate) fn other_word(word: &[u8]) -> Option<&str> {
     for (ours, others) in OTHER_WORDS {
         if is_one_of(word, *others) {

@@ -1,11 +1,11 @@
-//! Putting a text together from parts.
+//! Builds a text from parts.
 
 ghost use Rattle.std.specs.Prelude.{◌≡◌, ◌++◌, OnOk};
 ghost use Rattle.std.specs.List.{flat_map};
 
 use std::alloc::AllocError;
 
-/// Adds some parts, one after another.
+/// Appends the parts in order.
 pub(crate) fn push_all(text: &mut Vec<u8>, parts: &[&[u8]]) -> Result<(), AllocError>
     ensures { OnOk result (text.new.items
         ≡ text.old.items ++ flat_map (λ part. part.now) parts.now) }

@@ -1,4 +1,4 @@
-//! The place of a fault in a source.
+//! Finds the place of a fault in a source.
 
 ghost use Rattle.std.specs.Prelude.{◌≡◌, ◌≤◌, ◌<◌, IfOk, IfSome, length, map};
 ghost use Rattle.std.specs.Option.{option_copied};
@@ -22,8 +22,8 @@ use chip_lang::{
 };
 use std::alloc::{AllocError, Global};
 
-/// The place of a fault in a line of these tokens: for F9 the first name without a value, for F10 the first
-/// operand whose value is out of range, and for other faults the line's `span_of`.
+/// The place of a fault in a line with these tokens: for F9 the first name without a value, for F10
+/// the first operand whose value is out of range, and for other faults the `span_of` of the line.
 pub(crate) fn place_in(
     alloc: Global,
     source: &Source,
@@ -64,7 +64,7 @@ fn out_of_range_place(known: &Known, line: &LineView<'_>, tokens: &[Token], span
     }
 }
 
-/// The index, from 0, of the first operand of a line whose value is out of its place's range.
+/// The index, from 0, of the first operand of a line whose value is out of range.
 pub(crate) fn out_operand(line: &Line, names: &Known) -> usize
     ensures { result
         ≡ out_operand (seen_line line.now) (values_of (listed names.now.symbols.entries)) }
@@ -80,7 +80,7 @@ pub(crate) fn out_operand(line: &Line, names: &Known) -> usize
     }
 }
 
-/// The number of values of DB or DW before the first that is out of range.
+/// The number of values of DB or DW before the first one that is out of range.
 fn first_data_out(limit: u32, values: &[Expr], names: &Known) -> usize
     requires low { 0 < limit }
     requires high { limit ≤ 65536 }
@@ -111,7 +111,7 @@ fn is_datum_out(limit: u32, value: &Expr, names: &Known) -> bool
     }
 }
 
-/// The number of operands before the first whose value is out of its place's range.
+/// The number of operands before the first one whose value is out of range.
 fn first_out(patterns: &[Pattern], operands: &[Operand], names: &Known) -> usize
     ensures value { result ≡ first_out patterns.now (map operand_of operands.now)
         (values_of (listed names.now.symbols.entries)) }
@@ -129,7 +129,7 @@ fn first_out(patterns: &[Pattern], operands: &[Operand], names: &Known) -> usize
     first_out(patterns, operands, names) + 1
 }
 
-/// Whether the value of an operand is out of its place's range.
+/// Whether the value of an operand is out of the range of its field.
 #[tactic(auto, unfolding(chip_lang::specs::Encoding::field_of))]
 fn is_field_out(pattern: Pattern, operand: &Operand, names: &Known) -> bool
     ensures { result ≡ is_out (field_of pattern (operand_of operand.now)
@@ -146,7 +146,7 @@ fn is_field_out(pattern: Pattern, operand: &Operand, names: &Known) -> bool
     }
 }
 
-/// Whether a value that is not negative is out of range.
+/// Whether a value that must not be negative is out of range.
 fn is_number_out(limit: u16, expr: &Expr, names: &Known) -> bool
     ensures { result ≡ is_out
         (number_in limit (tree_of expr.now) (values_of (listed names.now.symbols.entries))) }
@@ -160,7 +160,7 @@ fn is_number_out(limit: u16, expr: &Expr, names: &Known) -> bool
     }
 }
 
-/// The tokens that begin at a place or after it.
+/// The tokens that begin at or after a place.
 pub(crate) fn tokens_after(place: usize, tokens: &[Token]) -> &[Token]
     ensures { result.now ≡ tokens_after place tokens.now }
 {
@@ -174,7 +174,7 @@ pub(crate) fn tokens_after(place: usize, tokens: &[Token]) -> &[Token]
     rest
 }
 
-/// The span of the operand of an index, where these tokens begin with the first operand.
+/// The span of the operand with this index; the tokens begin with the first operand.
 fn operand_span(index: usize, tokens: &[Token]) -> Option<Span>
     ensures { result ≡ operand_span index tokens.now }
 {
@@ -188,7 +188,7 @@ fn operand_span(index: usize, tokens: &[Token]) -> Option<Span>
     operand_span(if is_comma(*token) { index - 1 } else { index }, more)
 }
 
-/// The end of the last token before the next comma, after a token that ends at a place.
+/// The end of the last token before the next comma, or `place` if the comma or the end comes first.
 fn operand_end(place: usize, tokens: &[Token]) -> usize
     ensures { result ≡ operand_end place tokens.now }
 {
@@ -207,7 +207,7 @@ fn is_comma(token: Token) -> bool
     }
 }
 
-/// The span of the first name without a value, from the start of `span` on; `span` if there is none.
+/// The span of the first name without a value at or after the start of `span`; `span` if there is none.
 fn undefined_place(
     alloc: Global,
     source: &Source,
@@ -232,7 +232,7 @@ fn undefined_place(
     }
 }
 
-/// The number of the last line whose names a line sees.
+/// The number of the last line whose names are visible to a line.
 fn last_seen(number: usize, count: usize, line: &Line) -> usize
     ensures { result ≡ last_seen number count (seen_line line.now) }
 {
@@ -245,7 +245,7 @@ fn last_seen(number: usize, count: usize, line: &Line) -> usize
     }
 }
 
-/// The span of the first name, from a place on, that no line up to the line `last` gives a value.
+/// The span of the first name, at or after a place, that no line up to the line `last` defines.
 fn first_unknown(
     alloc: Global,
     known: &Known,

@@ -1,4 +1,4 @@
-//! The two ways to print the findings in a source.
+//! The two formats in which findings in a source are printed.
 
 ghost use Rattle.std.specs.Prelude.{◌≡◌, ◌≤◌, ◌++◌, OnOk, length};
 ghost use Rattle.chip_check.specs.inner.Printing.{print_in};
@@ -8,23 +8,23 @@ use crate::json::push_object;
 use crate::report::push_report;
 use std::alloc::{AllocError, Global};
 
-/// A way to print findings.
+/// A format for findings.
 #[derive(Clone, Copy)]
 pub(crate) enum Form {
-    /// As text, with the line and marks below it; in colours if `is_painted` is true.
+    /// Text, with the line and marks below each finding; coloured if `is_painted` is true.
     Text { is_painted: bool },
-    /// As a JSON object on a line of its own.
+    /// A JSON object on a separate line.
     Json,
 }
 
-/// A way to print findings, and the name of the file that they are found in.
+/// A format for findings, and the name of the file in which they were found.
 #[derive(Clone, Copy)]
 pub(crate) struct Style<'a> {
     pub(crate) form: Form,
     pub(crate) name: &'a [u8],
 }
 
-/// Adds a finding as it is printed. The finding lies in the line with this text and number.
+/// Adds a finding in a format. The finding lies in the line with this text and number.
 pub(crate) fn push_finding(
     alloc: Global,
     text: &mut Vec<u8>,

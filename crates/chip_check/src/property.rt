@@ -1,4 +1,4 @@
-//! Printing the fault of a property that can't be read.
+//! Prints the fault of a property that can't be read.
 
 ghost use Rattle.std.specs.Prelude.{◌≤◌, IfOk, length};
 
@@ -9,9 +9,9 @@ use chip_lang::Span;
 use chip_properties::PropertyFault;
 use std::alloc::{AllocError, Global};
 
-/// Adds the fault of a property that can't be read, as `check` prints it: as text, or as a JSON object. The
-/// property lies in this line of a file of this name. A property outside a file has the line number 1. A
-/// place past the line's end is moved to that end.
+/// Adds the fault of a property that can't be read, as `check` prints it: as text, or as a JSON
+/// object. The property lies in this line of the file with this name. A property outside a file has
+/// the line number 1. A place beyond the end of the line is moved to that end.
 ///
 /// # Errors
 ///

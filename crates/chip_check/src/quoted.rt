@@ -1,4 +1,4 @@
-//! Quoting the line of a finding: bytes that a terminal may misread are escaped.
+//! Quotes the line of a finding and escapes bytes that a terminal may misread.
 
 ghost use Rattle.std.specs.Prelude.{◌≡◌, ◌≤◌, ◌++◌, IfOk, OnOk, length, map};
 ghost use Rattle.std.specs.List.{flat_map};
@@ -9,7 +9,7 @@ use crate::json::hex_digit;
 use std::alloc::{AllocError, Global};
 use std::str;
 
-/// A byte of a line, as it is shown.
+/// A byte of a line, as it is displayed.
 #[derive(Clone, Copy)]
 pub(crate) enum ShownByte {
     /// The byte itself.
@@ -18,8 +18,8 @@ pub(crate) enum ShownByte {
     Escaped(u8),
 }
 
-/// Adds bytes as `check` quotes a line. Control bytes except the tab, and bytes that are not part of UTF-8,
-/// appear as `\x` and two hexadecimal digits.
+/// Adds bytes in the way `check` quotes a line. Control bytes except the tab, and bytes that are
+/// not part of UTF-8, appear as `\x` and two hexadecimal digits.
 ///
 /// # Errors
 ///
@@ -32,8 +32,8 @@ pub fn push_as_shown(alloc: Global, text: &mut Vec<u8>, bytes: &[u8]) -> Result<
     push_shown(text, &shown)
 }
 
-/// The bytes of a line as they are shown. Control bytes except the tab, and bytes that are not part of
-/// UTF-8, are escaped.
+/// The bytes of a line as they are displayed. Control bytes except the tab, and bytes that are not
+/// part of UTF-8, are escaped.
 pub(crate) fn shown_bytes(alloc: Global, line: &[u8]) -> Result<Vec<ShownByte>, AllocError>
     ensures bytes { IfOk result (λ shown. shown.items ≡ shown_bytes line.now) }
     ensures length { IfOk result (λ shown. length shown.items ≡ length line.now) }
@@ -49,7 +49,7 @@ pub(crate) fn shown_bytes(alloc: Global, line: &[u8]) -> Result<Vec<ShownByte>, 
     Ok(shown)
 }
 
-/// The length of the longest prefix of some bytes that is valid UTF-8.
+/// The length of the longest prefix of the bytes that is valid UTF-8.
 fn text_length(bytes: &[u8]) -> usize
     ensures value { result ≡ utf8_valid_len bytes.now }
     ensures bound { result ≤ length bytes.now }
@@ -87,7 +87,7 @@ fn is_control(byte: u8) -> bool
     byte < 32 && byte != b'\t' || byte == 127
 }
 
-/// Adds a line as it is shown.
+/// Adds a line as it is displayed.
 pub(crate) fn push_shown(text: &mut Vec<u8>, shown: &[ShownByte]) -> Result<(), AllocError>
     ensures { OnOk result (text.new.items ≡ text.old.items ++ flat_map byte_text shown.now) }
 {

@@ -1,5 +1,5 @@
-//! A finding as compilers print it: place, sentence, line and marks, and lines of help, with or without
-//! colours.
+//! Prints a finding as compilers do: place, sentence, line, marks, and lines of help, with or
+//! without colours.
 
 ghost use Rattle.std.specs.Prelude.{◌≡◌, ◌≤◌, ◌+◌, ◌-◌, ◌++◌, OnOk, length};
 ghost use Rattle.std.specs.List.{flat_map, position_or_len};
@@ -18,7 +18,7 @@ use std::alloc::{AllocError, Global};
 /// The style of marks: bold and blue.
 const MARK_STYLE: &[u8] = b"1;34";
 
-/// Adds the report of a finding, which lies in the line with this text and number.
+/// Adds the report of a finding in the line with this text and number.
 #[tactic(auto, unfolding(crate::specs::Check::report))]
 pub(crate) fn push_report(
     alloc: Global,
@@ -43,7 +43,7 @@ pub(crate) fn push_report(
     push_hints(text, is_painted, &finding.hints)
 }
 
-/// Adds the report of a finding in the line of this number, without the line and the marks below it.
+/// Adds the report of a finding in the line with this number, without the line itself and the marks below it.
 pub(crate) fn push_unquoted(
     alloc: Global,
     text: &mut Vec<u8>,
@@ -102,7 +102,7 @@ fn push_marks(
     text.extend_from_slice(b"\n")
 }
 
-/// Adds the blanks below some bytes, which come before the mark.
+/// Adds the blanks below the bytes before the mark.
 fn push_blanks(text: &mut Vec<u8>, shown: &[ShownByte]) -> Result<(), AllocError>
     ensures { OnOk result (text.new.items ≡ text.old.items ++ flat_map blank_of shown.now) }
 {
@@ -112,8 +112,8 @@ fn push_blanks(text: &mut Vec<u8>, shown: &[ShownByte]) -> Result<(), AllocError
     Ok(())
 }
 
-/// The blanks below a byte before the place: a tab below a tab, none below a further byte of a character
-/// in UTF-8, and four below an escape.
+/// The blanks below a byte before the place: a tab below a tab, none below a continuation byte of
+/// UTF-8, four below an escape, and otherwise one.
 fn blank_of(shown: ShownByte) -> &'static [u8]
     ensures { result.now ≡ blank_of shown }
 {
@@ -125,7 +125,7 @@ fn blank_of(shown: ShownByte) -> &'static [u8]
     }
 }
 
-/// Adds the mark below the bytes of a place.
+/// Adds the mark below the bytes at the place.
 fn push_mark(text: &mut Vec<u8>, shown: &[ShownByte]) -> Result<(), AllocError>
     ensures { OnOk result (text.new.items ≡ text.old.items ++ mark_text shown.now) }
 {
@@ -137,7 +137,7 @@ fn push_mark(text: &mut Vec<u8>, shown: &[ShownByte]) -> Result<(), AllocError>
     push_tildes(text, others)
 }
 
-/// Adds the tildes below the bytes of a place.
+/// Adds the tildes below the bytes at the place.
 fn push_tildes(text: &mut Vec<u8>, shown: &[ShownByte]) -> Result<(), AllocError>
     ensures { OnOk result (text.new.items ≡ text.old.items ++ flat_map tildes_of shown.now) }
 {
@@ -147,7 +147,7 @@ fn push_tildes(text: &mut Vec<u8>, shown: &[ShownByte]) -> Result<(), AllocError
     Ok(())
 }
 
-/// The tildes below a byte of the place: four below an escape, and one below another byte.
+/// The tildes below a byte at the place: four below an escape, and one below any other byte.
 fn tildes_of(shown: ShownByte) -> &'static [u8]
     ensures { result.now ≡ tildes_of shown }
 {
@@ -168,7 +168,7 @@ fn push_hints(text: &mut Vec<u8>, is_painted: bool, hints: &[Hint]) -> Result<()
     Ok(())
 }
 
-/// Adds a line of help, with its sentence up to the first newline.
+/// Adds a line of help, which contains its sentence up to the first newline.
 fn push_hint(text: &mut Vec<u8>, is_painted: bool, hint: &Hint) -> Result<(), AllocError>
     ensures { OnOk result (text.new.items ≡ text.old.items ++ hint_line is_painted hint.now) }
 {
@@ -182,7 +182,7 @@ fn push_hint(text: &mut Vec<u8>, is_painted: bool, hint: &Hint) -> Result<(), Al
     push_all(text, &[b" ", sentence, b"\n"])
 }
 
-/// The number of bytes before the first newline, or of all bytes if there is no newline.
+/// The number of bytes before the first newline, or the number of all bytes if there is no newline.
 fn line_length(bytes: &[u8]) -> usize
     ensures length { result ≡ position_or_len is_newline bytes.now }
     ensures bound { result ≤ length bytes.now }
@@ -203,7 +203,7 @@ fn beginning(kind: HintKind) -> &'static [u8]
     }
 }
 
-/// The style of the beginning of a line of help: bold and green, or cyan for a note.
+/// The style of the beginning of a line of help: bold and green for help, and bold and cyan for a note.
 fn hint_style(kind: HintKind) -> &'static [u8]
     ensures { result.now ≡ hint_style kind }
 {
@@ -213,7 +213,7 @@ fn hint_style(kind: HintKind) -> &'static [u8]
     }
 }
 
-/// The style of a code: bold and red, or bold and yellow for a warning.
+/// The style of a code: bold and yellow for a warning, and bold and red for a fault.
 fn code_style(code: &[u8]) -> &'static [u8]
     ensures { result.now ≡ code_style code.now }
 {
@@ -223,7 +223,7 @@ fn code_style(code: &[u8]) -> &'static [u8]
     }
 }
 
-/// Adds a part of the text in a style.
+/// Adds a part of the text with a style.
 fn push_painted(
     text: &mut Vec<u8>,
     is_painted: bool,
@@ -238,7 +238,7 @@ fn push_painted(
     push_closing(text, is_painted)
 }
 
-/// Adds the beginning of a style, if the text is painted.
+/// Adds the start of a style, if the text is coloured.
 fn push_opening(text: &mut Vec<u8>, is_painted: bool, style: &[u8]) -> Result<(), AllocError>
     ensures { OnOk result (text.new.items ≡ text.old.items ++ opening is_painted style.now) }
 {
@@ -248,7 +248,7 @@ fn push_opening(text: &mut Vec<u8>, is_painted: bool, style: &[u8]) -> Result<()
     push_all(text, &[b"\x1b[", style, b"m"])
 }
 
-/// Adds the end of a style, if the text is painted.
+/// Adds the end of a style, if the text is coloured.
 fn push_closing(text: &mut Vec<u8>, is_painted: bool) -> Result<(), AllocError>
     ensures { OnOk result (text.new.items ≡ text.old.items ++ closing is_painted) }
 {

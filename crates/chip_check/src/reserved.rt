@@ -4,7 +4,7 @@ use crate::hint::{Hint, push_help};
 use crate::words::is_register;
 use std::alloc::{AllocError, Global};
 
-/// Reserved words, each with what it does and a name to choose instead.
+/// Reserved words, each with its effect and a name to use instead.
 const MEANINGS: &[(&str, &str, &str)] = &[
     ("I", "is the address register", "INDEX"),
     ("DT", "is the delay timer", "DELAY"),
@@ -76,7 +76,7 @@ const MEANINGS: &[(&str, &str, &str)] = &[
     ("UNDEF", "is a directive of other assemblers", "UNDEFINED"),
 ];
 
-/// Adds what a word does and a name to choose instead, if the word is reserved; returns whether it is.
+/// Adds the effect of a word and a name to use instead, if the word is reserved. Returns whether it is.
 pub(crate) fn push_meaning(
     alloc: Global,
     hints: &mut Vec<Hint>,
@@ -95,7 +95,7 @@ pub(crate) fn push_meaning(
     Ok(is_reserved)
 }
 
-/// Adds what a word does, and a name to choose instead.
+/// Adds the effect of a word, and a name to use instead.
 fn push_other_name(
     alloc: Global,
     hints: &mut Vec<Hint>,

@@ -1,9 +1,9 @@
-//! Names with a byte that no name can have.
+//! Finds names that contain a byte that no name can contain.
 
 ghost use Rattle.std.specs.Prelude.{◌≤◌, length};
 
-/// The first byte that no name can have, in the name at the beginning of a line that defines it by `:`, `=`
-/// or EQU.
+/// The first byte that no name can contain, in the name that begins a line and is defined by `:`,
+/// `=` or EQU.
 pub(crate) fn wrong_byte(line: &[u8]) -> Option<u8> {
     let line = line.trim_ascii_start();
     let (name, rest) = line.split_at(name_end(line));
@@ -19,7 +19,7 @@ pub(crate) fn wrong_byte(line: &[u8]) -> Option<u8> {
     }
 }
 
-/// The number of bytes of a line before the first byte that ends even a misspelled name.
+/// The number of bytes in a line before the first byte that can't belong even to a misspelled name.
 fn name_end(line: &[u8]) -> usize
     ensures { result ≤ length line.now }
 {
@@ -31,7 +31,7 @@ fn name_end(line: &[u8]) -> usize
     line.len()
 }
 
-/// The first byte of a name in ASCII that is not a letter, a digit or `_`.
+/// The first byte of an ASCII name that is not a letter, a digit or `_`.
 fn first_wrong(name: &[u8]) -> Option<u8> {
     for byte in name {
         if !is_name_byte(byte) && byte.is_ascii() {

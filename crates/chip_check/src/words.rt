@@ -1,4 +1,4 @@
-//! The tokens of a line in upper case, and which of them have a meaning of their own.
+//! The tokens of a line in upper case, and which of them have a predefined meaning.
 
 use chip_lang::{Kind, Token};
 use std::alloc::{AllocError, Global};
@@ -12,7 +12,7 @@ pub(crate) struct Word<'a> {
     pub(crate) text: &'a [u8],
 }
 
-/// The words for some tokens of a line, which is given in upper case.
+/// The words for these tokens of a line, which is given in upper case.
 pub(crate) fn words_of<'a>(
     alloc: Global,
     upper: &'a [u8],
@@ -28,12 +28,12 @@ pub(crate) fn words_of<'a>(
     Ok(words)
 }
 
-/// Whether a word is one of some words.
+/// Whether `words` contains `word`.
 pub(crate) fn is_one_of(word: &[u8], words: &[&str]) -> bool {
     words.iter().any(|other| word == other.as_bytes())
 }
 
-/// Whether a word is a register.
+/// Whether a word is the name of a register V0 to VF.
 pub(crate) fn is_register(word: &[u8]) -> bool {
     matches!(word, [b'V', b'0'..=b'9' | b'A'..=b'F'])
 }
@@ -48,7 +48,7 @@ pub(crate) fn is_atom(word: &Word<'_>) -> bool {
     matches!(word.kind, Kind::Word | Kind::Number(_) | Kind::Text)
 }
 
-/// Whether a sign appears twice in a row.
+/// Whether a sign appears twice in succession.
 pub(crate) fn has_twice(sign: &[u8], words: &[Word<'_>]) -> bool {
     words
         .windows(2)
@@ -60,7 +60,7 @@ pub(crate) fn is_comma(word: &Word<'_>) -> bool {
     matches!(word.text, b",")
 }
 
-/// The words of a line's statement, after a label and its colon.
+/// The words of a line's statement, without a label and its colon.
 pub(crate) fn statement_of<'a>(words: &'a [Word<'a>]) -> &'a [Word<'a>] {
     match words {
         [_, Word { text: b":", .. }, rest @ ..] => rest,

@@ -1,3 +1,3 @@
--- The lines of a source that are executed (chosen by this project).
---     Marks     the listing of a source with a mark at each line that is executed
+-- The executed lines of a source (chosen by this project).
+--     Marks     the listing of a source with a mark before each executed line
 pub mod Marks

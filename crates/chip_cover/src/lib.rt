@@ -1,4 +1,4 @@
-//! The listing of a source with a mark at each line that is executed.
+//! The listing of a source with a mark before each executed line.
 #![tactic(auto)]
 
 mod marks;

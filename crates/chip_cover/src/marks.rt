@@ -1,4 +1,4 @@
-//! The listing of a source with a mark at each line that is executed.
+//! The listing of a source with a mark before each executed line.
 
 ghost use Rattle.std.specs.Prelude.{◌≡◌, ◌++◌, IfOk, OnOk};
 ghost use Rattle.chip_cover.specs.Marks.{is_marked, marked_listing, marked_row};
@@ -7,8 +7,8 @@ use chip_asm::{LineView, Source};
 use chip_explore::Executed;
 use std::alloc::{AllocError, Global};
 
-/// Returns the listing of a source. A line that has bytes and at whose address a step is made gets
-/// `+ ` before it, and every other line gets two spaces.
+/// Returns the listing of a source. A line is marked with `+ ` if the line has bytes and a step is
+/// executed at its address. Every other line begins with two spaces.
 ///
 /// # Errors
 ///
@@ -30,7 +30,7 @@ pub fn marked_listing(
     Ok(text)
 }
 
-/// Adds the mark of a line, and then its row of the listing.
+/// Appends the mark of a line, and then the line's row of the listing.
 fn push_marked(
     text: &mut Vec<u8>,
     line: &LineView<'_>,
@@ -43,7 +43,7 @@ fn push_marked(
     line.push_decimal_row(text)
 }
 
-/// Whether a line has bytes, and a step is made at its address.
+/// Whether a line has bytes, and a step is executed at its address.
 fn is_marked(line: &LineView<'_>, executed: &Executed) -> bool
     ensures { result ≡ is_marked executed.now line.now }
 {

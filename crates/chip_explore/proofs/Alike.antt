@@ -85,7 +85,7 @@ module _ (f : ℕ) (a b : State) (h : Alike f a b) where
         memory = λ going at known. h.memory going at known ∙ k.memory (sym same_stop ∙ going) at known;
       }
 
--- the same, where the delay timer of the first state may be a bound
+-- the same, if the delay timer of the first state may be a bound
 pub ticks_same : (p : Setting) (s : State) → IsProper s → AlikeTicks p 0 s s
 ticks_same p s proper = record { delay = s.core.delay; most = omega arith; exact = λ _. refl; alike = alike_same s proper }
 

@@ -145,14 +145,14 @@ module _ (p : Setting) (f : ℕ) (a b : State) (near : AlikeTicks p f a b) (goin
       (and_parts (all_known p.target.properties.now) (all_known p.goals.now) h).0)
       ∙ ap (λ (pc : ℕ). if is_address p.target.address pc then Some met.Address else option_map met.Property (position (is_met b) p.target.properties.now)) pc_same
 
-  -- a state that is alike meets the goals if the other one does
+  -- a state meets the goals if a state that is like it does
   pub goals_same : are_goals_known p f a ≡ true → meets_goals p a ≡ meets_goals p b
   goals_same h = all_same (is_property_known known a.core.pc) (is_met a) (is_met b) property_same p.goals.now h
 
 pub goals_known : (p : Setting) (f : ℕ) (s : State) → are_known p f s ≡ true → are_goals_known p f s ≡ true
 goals_known p f s h = (and_parts (list_all (is_property_known (known_of p f s) s.core.pc) p.target.properties.now) (are_goals_known p f s) h).1
 
--- a state of a run meets whatever the state of the search that is like it meets
+-- a state of a run meets the same part of the target as the state of the search that is like it
 met_same_by : (p : Setting) (f : ℕ) (a b : State) (near : AlikeTicks p f a b) (stopped : Option Stop) → a.core.stopped ≡ stopped
     → (is_some stopped ≡ false → are_known p f a ≡ true) → met_by p.target a stopped ≡ met_by p.target b stopped
 met_same_by p f a b near (Some cause) is has = refl

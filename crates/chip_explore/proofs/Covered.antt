@@ -1,5 +1,5 @@
--- What is safe from the start on, and from each state that was taken up: no key script meets the target
--- in it, or makes a step at an address that isn't noted.
+-- Facts that hold from the start on, and from each state that was taken up: no key script meets the
+-- target there, or executes a step at an address that isn't noted.
 use Rattle.std.proofs.Common.{◌≡◌, ℕ, zero, suc, ◌+◌, ◌-◌, ◌*◌, ◌/◌, ◌%◌, ◌^◌, ◌<◌, ◌≤◌, ◌==◌, ◌⊎◌, ◌||◌, ◌&&◌, not, Bool, true, false, Option, Some, None, length, slice_index, is_some, refl, sym, ap, subst, ◌∙◌, inl, inr, ⊎_elim, if◌then◌else◌, arith, add-one}
 use Rattle.std.proofs.Math.Nat.{mod-add-div', add-mul-mod_self_right}
 use Rattle.std.proofs.lemmas.Bool.{cases_lt, eqb-true}
@@ -62,7 +62,7 @@ pub phase_by : (free : Bool) (rate u t : ℕ) → (if free then 0 else u % rate)
 phase_by true rate u t h = refl
 phase_by false rate u t h = rest_more rate u t h
 
--- the ticks of a run at the rate are those of the run with these ticks
+-- a run at the rate is the run with the ticks of that rate
 pub ticking_run : (rate : ℕ) (held : ℕ → ℕ) (start : State) (t : ℕ) → run step_of rate held start t ≡ run_ticking (ticks rate) held start t
 ticking_run rate held start zero = refl
 ticking_run rate held start (suc t) = ap (λ (s : State). step_of s (held t) (ticks rate t)) (ticking_run rate held start t)
@@ -83,7 +83,7 @@ module _ (alike : AlikeSteps) (grow : DrawsGrow) where
       let count = add-one t in
       omega arith
 
-  -- one step of two states, the first of which is one of a search
+  -- one step of two states; the first is a state of the search
   module _ (p : Setting) (f after : ℕ) (a s : State) (keys : ℕ) (tick : Bool) (unneeded : IsUnneeded f a) (low_a : a.core.draws < 2 ^ 64 - 1) (low_s : s.core.draws < 2 ^ 64 - 1) where
     -- ticks as in the run
     rated : p.free ≡ false → (ours : Bool) → ours ≡ tick → AlikeTicks p f a s → IsForgottenAfter f a (step_of a keys ours).core.pc after
@@ -183,7 +183,7 @@ module _ (alike : AlikeSteps) (grow : DrawsGrow) where
           let same : is_some (read_as value a).core.stopped ≡ is_some a.core.stopped = ap (λ (b : State). is_some b.core.stopped) (read_step (with_delay value a) x 0 reads) in
           absurd (cc)
 
-    -- a state of a run is like one from which everything is safe
+    -- a state of a run is like a state from which everything is safe
     pub record Near (s : State) (t : ℕ) : Type 0 where
       pub state : State
       pub at : ℕ

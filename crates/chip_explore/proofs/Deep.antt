@@ -1,5 +1,5 @@
--- What a deep search says after one that covered the steps up to n, and what an answer up to a step says
--- about an earlier step.
+-- The answer of a deep search after one that covered the steps up to n, and the answer about an
+-- earlier step that follows from an answer up to a step.
 use Rattle.std.proofs.Common.{◌≡◌, ℕ, zero, suc, ◌-◌, ◌≤◌, true, None, List, Bool, ap, refl, ◌∙◌, arith}
 use Rattle.chip_machine.specs.State.{State}
 use Rattle.chip_machine.specs.Step.{step_of}

@@ -1,4 +1,4 @@
--- Steps of a state with another value of the delay timer, and steps in which the timers tick.
+-- Steps of a state with a different value of the delay timer, and steps in which the timers tick.
 use Rattle.std.proofs.Common.{◌≡◌, ℕ, ◌+◌, ◌-◌, ◌*◌, ◌%◌, ◌<◌, ◌≤◌, ◌==◌, ◌&&◌, Bool, true, false, not, List, length, Option, Some, None, Result, Ok, Err, nat_le, nat_lt, find, is_some, refl, ap, sym, subst, ◌∙◌, take, drop, if◌then◌else◌, arith}
 use Rattle.std.proofs.lemmas.Bool.{eqb-true}
 use Rattle.std.specs.List.{range_with_len}
@@ -200,12 +200,12 @@ module _ (s : State) (d : ℕ) (low : d ≤ s.core.delay) (keys : ℕ) where
   step_slow true u = record { delay = d; most = low; is = refl }
   step_slow false u = settle_slow _ _ (perform_slow _ _ (at_slow s.core d low (nat_lt LAST_WORD s.core.pc) (decode_of (word_at s.memory s.core.pc)) u))
 
-  -- a step that doesn't read the delay timer acts the same with a lesser one, and may set another value of it
+  -- a step that doesn't read the delay timer acts the same with a smaller one, and may set it to another value
   pub delayed_step : delay_register s ≡ None → Delayed (step_of s keys false) (step_of there keys false)
   unfolding step_of
   delayed_step u = step_slow (is_some s.core.stopped) u
 
--- ---- a step that reads it
+-- ---- a step that reads the delay timer
 
 module _ (x : ℕ) (c : Core) where
   abbrev told : Effect
@@ -233,7 +233,7 @@ pub read_step : (s : State) (x keys : ℕ) → delay_register s ≡ Some x → s
 unfolding step_of
 read_step s x keys u = step_read s x keys (is_some s.core.stopped) u
 
--- a step that reads it leads to the same place with each value
+-- a step that reads the delay timer leads to the same address with each value
 pub place_read : (s : State) (x value : ℕ) → delay_register s ≡ Some x → (read_as value s).core.pc ≡ (step_of s 0 false).core.pc
 place_read s x value reads =
     ap (λ (b : State). b.core.pc) (read_step (with_delay value s) x 0 reads) ∙ sym (ap (λ (b : State). b.core.pc) (read_step s x 0 reads))

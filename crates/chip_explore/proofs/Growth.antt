@@ -1,4 +1,4 @@
--- What stays true when the kept states change.
+-- Facts that stay true when the kept states change.
 use Rattle.std.proofs.Common.{◌≡◌, ℕ, zero, suc, ◌+◌, ◌-◌, ◌^◌, ◌<◌, ◌≤◌, ◌⊎◌, Bool, true, false, Option, Some, None, List, length, slice_index, is_some, ◌||◌, refl, sym, ap, subst, ◌∙◌, inl, inr, ⊎_elim, arith}
 use Rattle.std.proofs.Common.{◌≢◌, get_or, set, [], ◌∷◌, ◌++◌}
 use Rattle.std.proofs.lemmas.Bool.{cases_eq, cases_lt}
@@ -107,7 +107,7 @@ taken_by p v w more place step kept register is drawn asked unneeded on same =
       goes_on = rw (forgotten, member, same, is) on;
     }
 
--- a closed place stays taken up while its step stays
+-- a closed place stays taken up as long as its step stays the same
 still_taken : (p : Setting) (v w : View) → Extends p v w → (j : ℕ) → j < length v.steps → slice_index w.steps j ≡ slice_index v.steps j → IsTaken p v j → IsTaken p w j
 still_taken p v w more j kept same taken =
     taken_by p v w more j _ kept _ refl taken.drawn taken.asked taken.unneeded (still_goes_on p v w more (timed_register p (v.member j)) _ _ _ taken.goes_on) same
@@ -167,8 +167,8 @@ set_phased p steps place step j kept phased =
     (λ (other : j ≢ place). ap (phase p) (get_or-set_other steps place j step 0 other))
     (cases_eq j place)
 
--- a call preserves what holds, if each place that is closed after it was closed before with the same
--- step, or is taken up
+-- a call preserves `Holds` if each place that is closed after the call was closed before it with
+-- the same step, or is taken up
 pub goes : (p : Setting) (m n : Members) → Holds p m → n.start ≡ m.start → Extends p (view_of m) (view_of n)
     → length n.states.items ≡ length n.steps.items → length n.forgotten.items ≡ length n.steps.items → length n.closed.items ≡ length n.steps.items
     → ((j : ℕ) → get_or n.closed.items j false ≡ true → IsTaken p (view_of n) j ⊎ ((get_or m.closed.items j false ≡ true) × (slice_index n.steps.items j ≡ slice_index m.steps.items j)))
@@ -192,7 +192,7 @@ goes p m n holds start more states forgotten closed same =
       };
     }
 
--- a view with equal states and steps, whose search is about no more steps, and saw no fewer addresses
+-- a view with equal states and steps, whose search is about no more steps and saw no fewer addresses
 pub extends_as : (p : Setting) (m : Members) (limit : ℕ) (executed : List Bool) → limit ≤ m.limit → Grows m.executed executed
     → Extends p (view_of m) (view_of (record m { limit = limit; executed = executed }))
 extends_as p m limit executed low grows =

@@ -58,7 +58,7 @@ by_test false goals s keys tick going h stops =
     (λ after made. ap (λ (why : Option Stop). is_some why) (still_going keys s after made) ∙ going)
     stops
 
--- a step that stops the machine leaves the goals as they are
+-- a step that stops the machine doesn't change whether the goals are met
 pub goals_stopped : (goals : List Property) (s : State) (keys : ℕ) (tick : Bool) → is_some s.core.stopped ≡ false → is_some (step_of s keys tick).core.stopped ≡ true
     → are_met goals (step_of s keys tick) ≡ are_met goals s
 unfolding step_of

@@ -27,7 +27,7 @@ use Rattle.chip_explore.proofs.Halted.{goals_stopped}
 use Rattle.chip_explore.proofs.OneOf.{mapped_none, none_by}
 use Rattle.chip_explore.proofs.Reached.{run_agree}
 
--- ---- a machine that makes a step and meets none of some properties
+-- ---- a machine that makes a step and meets none of these properties
 
 unmet_first : (goals : List Property) (s : State) → goals ≢ [] → position (is_met s) goals ≡ None → are_met goals s ≡ false
 unmet_first [] s some h = absurd (some refl)
@@ -46,7 +46,7 @@ unmet_by target s None going none some h =
 unmet : (target : Target) (s : State) → is_some s.core.stopped ≡ false → target.address ≡ None → target.properties.now ≢ [] → met_in target s ≡ None → are_met target.properties.now s ≡ false
 unmet target s going none some h = unmet_by target s s.core.stopped going none some h
 
--- ---- from a machine that makes a step, where a search for the goals came to its end
+-- ---- from a machine that makes a step, after a complete search for the goals
 
 module _ (alike : AlikeSteps) (grow : DrawsGrow) (p : Setting) (m : Members) (base : State) (first : ℕ) (searched : IsSearched p m base first) (whole : IsWhole p m)
     (going : is_some base.core.stopped ≡ false) (address : p.target.address ≡ None) (some : p.target.properties.now ≢ [])

@@ -1,4 +1,4 @@
--- What an answer for several properties implies for one of them.
+-- Implications of an answer for several properties for one of them.
 use Rattle.std.proofs.Common.{◌≡◌, ℕ, zero, suc, ◌+◌, ◌<◌, Bool, true, false, List, [], ◌∷◌, Option, Some, None, IfSome, option_map, position, slice_get, ap, sym, subst, ◌∙◌, refl, arith, if◌then◌else◌}
 use Rattle.std.proofs.lemmas.Bool.{eqb-true}
 use Rattle.std.proofs.lemmas.Iterator.Adapters.{position_from-zero}
@@ -41,7 +41,7 @@ module _ {A : Type 0} (test : A → Bool) where
   none_passes i (y ∷ ys) (suc k) x none there =
       none_passes (i + 1) ys k x (none_by (test y) i (position_from test (i + 1) ys) none).1 there
 
--- ---- what a machine meets
+-- ---- the match of a machine
 
 -- the match of a target: the address, or the first property that is met
 abbrev going : (at : Bool) → Option ℕ → Option Met
@@ -114,7 +114,7 @@ module _ (k : ℕ) (one all : Target) (is : IsOneOf k one all) where
     before_one zero first = tt
     before_one (suc n) first = avoids_one n (first n (omega arith))
 
-    -- the match is the property at the place, if the test says so
+    -- the match is the property at the place if the test succeeds
     of_place : (m : Met) → is_of k m ≡ true → m ≡ met.Property k
     of_place (met.Property j) h = ap met.Property (eqb-true j k h)
     of_place (met.Cause cause) h = absurd (cc)

@@ -34,7 +34,7 @@ first step e es h = record { early = grind (arith, nat_tests); key = grind (arit
 ordered : (step : ℕ) (e : KeyEvent) (es : List KeyEvent) → step ≤ e.step → e.key < 16 → are_in_order e.step es ≡ true → are_in_order step (e ∷ es) ≡ true
 ordered step e es early key rest = grind (arith, nat_tests)
 
--- events that are in order from a step on are so from an earlier one on
+-- events that are in order from a step on are also in order from an earlier step on
 ordered_from : (n m : ℕ) (es : List KeyEvent) → n ≤ m → are_in_order m es ≡ true → are_in_order n es ≡ true
 ordered_from n m [] less h = refl
 ordered_from n m (e ∷ es) less h =
@@ -48,7 +48,7 @@ none_left [] (suc n) l = refl
 none_left (x ∷ xs) zero l = absurd (omega arith)
 none_left (x ∷ xs) (suc n) l = none_left xs n (omega arith)
 
--- where the first of the others is later than a step, all of them are
+-- if the first of the remaining events is later than a step, all of them are
 pub all_later : (events : List KeyEvent) (passed step : ℕ) → are_in_order step (drop passed events) ≡ true
     → ((d : KeyEvent) → passed < length events → step < (slice_index_or events passed d).step) → are_in_order (step + 1) (drop passed events) ≡ true
 all_later events passed step h later =
@@ -69,7 +69,7 @@ and_false : (b : Bool) → (b && false) ≡ false
 and_false true = refl
 and_false false = refl
 
--- events that say the same of a key up to a step
+-- two lists of events that agree about a key up to a step
 same_down : (events later : Events) (key s : ℕ) → ((r : ℕ) → r ≤ s → event_at later r key ≡ event_at events r key) → is_down later key s ≡ is_down events key s
 same_down events later key zero same = ap (λ o. unwrap_or o false) (same 0 (omega arith))
 same_down events later key (suc s) same =
@@ -101,7 +101,7 @@ module _ (events : Events) (s key : ℕ) (down : Bool) where
   down_other : (t k : ℕ) → k ≢ key → is_down more k t ≡ is_down events k t
   down_other t k n = same_down events more k t (λ r l. other_key r k n)
 
--- later events leave the keys at a step as they are
+-- later events don't change the keys at a step
 later_same : (events : Events) (es : List KeyEvent) (t k : ℕ) → are_in_order (t + 1) es ≡ true → is_down (fold with_event events es) k t ≡ is_down events k t
 later_same events [] t k h = refl
 later_same events (e ∷ es) t k h =
@@ -110,7 +110,7 @@ later_same events (e ∷ es) t k h =
     later_same (with_event events e) es t k (ordered_from (t + 1) e.step es early is.rest)
     ∙ is_down-insert events e.step e.key e.down t (omega arith) k
 
--- ---- how far a script was applied
+-- ---- the applied events of a script
 
 abbrev pub are_up : List Bool → Bool
 are_up [] = true
@@ -220,7 +220,7 @@ one_more events step p q d is inside early passed down as_mask =
 
 -- ---- a run under a script
 
--- one step more
+-- one more step
 pub ran_on : (rate : ℕ) (keys : ℕ → ℕ) (start machine next : State) (made down : ℕ) (tick : Bool) → machine ≡ run step_of rate keys start made → down ≡ keys made → tick ≡ ticks rate made
     → next ≡ step_of machine down tick → next ≡ run step_of rate keys start (made + 1)
 ran_on rate keys start machine next made down tick reached held ticking steps =
@@ -230,7 +230,7 @@ ran_on rate keys start machine next made down tick reached held ticking steps =
     ∙ ap (λ (b : Bool). step_of (run step_of rate keys start made) (keys made) b) ticking
     ∙ sym (ap (run step_of rate keys start) (add-one made))
 
--- with none but allowed keys down
+-- with only allowed keys down
 pub allowed_on : (allowed : ℕ) (keys : ℕ → ℕ) (made down : ℕ) → ((t : ℕ) → t < made → IsWithin allowed (keys t)) → down ≡ keys made → IsWithin allowed down
     → (t : ℕ) → t < made + 1 → IsWithin allowed (keys t)
 allowed_on allowed keys made down before held within t below =

@@ -1,5 +1,4 @@
--- From each state of a run, some way of playing leads to the goals, if ranks say so for each kept
--- state.
+-- From each state of a run, some way of playing leads to the goals, if each kept state has a rank.
 use Rattle.std.proofs.Common.{◌≡◌, ℕ, zero, suc, ◌+◌, ◌-◌, ◌*◌, ◌^◌, ◌<◌, ◌≤◌, ◌==◌, ◌⊎◌, Bool, true, false, List, length, slice_index, is_some, refl, sym, ap, subst, ◌∙◌, ⊎_elim, if◌then◌else◌, arith, add-one}
 use Rattle.std.specs.Int.Bits.{and_zero_l}
 use Rattle.chip_machine.specs.Block.{ticks}
@@ -59,7 +58,7 @@ module _ (rate : ℕ) (start : State) where
       ∙ ap (λ (s : State). step_of s (turned held t keys t) (ticks rate t)) (run_agree (turned held t keys) held t (turned_below held t keys))
       ∙ ap (λ (k : ℕ). step_of (run step_of rate held start t) k (ticks rate t)) (turned_at held t keys)
 
--- a part of a way that is made in one sequence, with the step before it
+-- the maximal length of a sequence of steps, including the step before it
 abbrev leg : ℕ
 leg = MOST_QUIET_STEPS + 1
 
@@ -101,7 +100,7 @@ module _ (alike : AlikeSteps) (grow : DrawsGrow) (p : Setting) (v : View) (ranks
     made_run : AlikeTicks p after (step_of a keys (tick_at p u)) (ran (turned held t keys) (t + 1))
     made_run = subst (λ (s : State). AlikeTicks p after (step_of a keys (tick_at p u)) s) (sym (turned_run p.rate start held t keys)) made
 
-  -- ---- from the states that are kept
+  -- ---- from the kept states
 
   abbrev Reached : ℕ → Type 0
   Reached r =
@@ -175,7 +174,7 @@ module _ (alike : AlikeSteps) (grow : DrawsGrow) (p : Setting) (v : View) (ranks
         (subst (λ (s : State). Ended alike grow p v (step_of a 0 (tick_at p u)) s) (sym (turned_run p.rate start held t 0)) ended_here)
         (omega arith) whole)
 
--- a search that came to its end, in which each state has a rank
+-- a complete search in which each state has a rank
 pub always : (alike : AlikeSteps) (grow : DrawsGrow) (p : Setting) (m : Members) (ranks : List ℕ) → m.start.core.draws ≡ 0 → IsSearched p m m.start 0 → IsWhole p m
     → ((place : ℕ) → place < length m.steps.items → IsRanked p (view_of m) ranks place) → (n : ℕ) → n < FAR → AlwaysCan p.rate p.allowed p.goals.now m.start n
 always alike grow p m ranks fresh searched whole ranked n far held script t within_n =

@@ -34,7 +34,7 @@ module _ (base : Base) (backdrop : Backdrop) where
   abbrev memory : List ℕ
   memory = (fold with_byte base.machine backdrop.bytes.items).memory
 
-  -- the state with some parts, given by its core and its memory
+  -- the state with some parts, built from its core and its memory
   abbrev plain : Parts → State
   plain parts = with_screen (fold with_row base.rows.items backdrop.rows.items) (record { core = core_with_parts parts base.machine.core; memory = memory })
 

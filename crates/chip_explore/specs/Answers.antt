@@ -1,19 +1,19 @@
 -- The meaning of each answer of a search.
 -- Source: chosen by this project.
---     Meets           under the events, the machine meets the target at the step, as `met` says, and only
---                     allowed keys are down before it
+--     Meets           under the events, the machine meets the target at the step, as `met` states, and
+--                     only allowed keys are down before that step
 --     IsFound         `Meets`, and no key script makes the machine meet the target at an earlier step
 --     IsFirst         the answer isn't `Later`, so the target can't be met before a step that it reports
---     EndsBy          the answer has no step past the last one that was asked for: neither the step of a
---                     script nor the step up to which no script leads there; only `Never` is about all
---                     steps
+--     EndsBy          the answer contains no step past the last one that was asked for: neither the step
+--                     at which a script meets the target nor the step up to which no script does; only
+--                     `Never` is about all steps
 --     most_ways       the number of ways in which a search makes the next step of a state: with no key
---                     down, and with each of sixteen alone
+--                     down, and with each of the sixteen keys alone
 --     Answers         found; later: the target is met, and avoided up to another step; within n:
 --                     avoided up to step n; never: avoided up to each step below the end
---     AreExecuted     the addresses that a search saw executed are all there are: no key script makes
---                     the machine make a step at another one, before the step at which the target was
---                     found; up to the step to which it is avoided; at any step below the end
+--     AreExecuted     the addresses that a search saw executed are complete: no key script makes the
+--                     machine execute a step at another address, before the step at which the target was
+--                     found; up to the step up to which it is avoided; at any step below the end
 use Rattle.std.specs.Prelude.{◌≡◌, ℕ, ◌<◌, ◌≤◌, Some, Bool, List}
 use Rattle.chip_machine.specs.Choices.{IsWithin}
 use Rattle.chip_machine.specs.State.{State}

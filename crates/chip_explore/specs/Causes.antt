@@ -1,7 +1,7 @@
 -- Sets of stop causes.
 -- Source: chosen by this project.
 --     is_wanted       whether a set contains a cause, Sk at bit k
---     with_number     the causes of a set and the one with a number, if a cause has it
+--     with_number     the causes of a set and the cause with a number, if there is such a cause
 use Rattle.std.specs.Prelude.{ℕ, ◌^◌, ◌/◌, ◌%◌, ◌==◌, ◌&&◌, Bool, nat_le, Option, Some, None, bit_or, if◌then◌else◌}
 use Rattle.chip_machine.specs.declared.stop.Stop.{Stop}
 use Rattle.chip_machine.specs.Numbers.{stop_number}

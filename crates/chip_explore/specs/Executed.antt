@@ -1,8 +1,8 @@
--- The addresses at which a machine makes steps.
+-- The addresses at which a machine executes steps.
 -- Source: chosen by this project.
---     is_among        whether an address is in a table; an address past the table always is
---     is_at_one       whether a machine has stopped, or is at one of some addresses
---     StaysAmong      no key script makes the machine make a step at another address, at a step up to n
+--     is_among        whether an address is in a table; true for each address past the table
+--     is_at_one       whether a machine has stopped or is at one of the addresses
+--     StaysAmong      no key script makes the machine execute another address, at a step up to n
 use Rattle.std.specs.Prelude.{◌≡◌, ℕ, ◌≤◌, ◌||◌, Bool, true, List, is_some, slice_index_or}
 use Rattle.chip_machine.specs.State.{State}
 use Rattle.chip_machine.specs.Step.{step_of}

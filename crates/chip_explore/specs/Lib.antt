@@ -3,14 +3,14 @@
 --     Causes       sets of stop causes
 --     Property     properties of a state, which an author states about a game
 --     Target       the states that a search looks for
---     Scripts      key scripts, and states that none of them reaches
---     Prospects    whether some goals can be reached from everywhere
---     Executed     the addresses at which a machine makes steps
+--     Scripts      key scripts, and states that no script reaches
+--     Prospects    whether goals can be reached from each state that a player can reach
+--     Executed     the addresses at which a machine executes steps
 --     Answers      the meaning of each answer
 --     Speeds       answers that hold for all speeds of the timers
 --     OneOf        what an answer for several properties implies for each of them
---     inner        what the search keeps, and why this shows that no script reaches the target; a reader
---                  may skip it
+--     inner        the states that the search keeps, and why they show that no script reaches the target;
+--                  a reader may skip these files
 pub mod Causes
 pub mod Property
 pub mod Target

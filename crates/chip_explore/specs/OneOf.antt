@@ -1,11 +1,11 @@
 -- Answers for several properties, and what they imply for each of them.
 -- Source: chosen by this project.
---     IsOneOf         a target with only one of the properties of another target, the one at a place,
---                     and otherwise equal to it
---     told_of         what an answer for all properties implies for the one at a place, if anything: if
---                     another property was found, this one is avoided up to the step before
---     AnswersOne      the law: what is implied in this way is an answer for the one property alone
---     NeverOne        the law: if no property is ever met at any speed, this one isn't either
+--     IsOneOf         a target that has only one of the properties of another target, the one at a
+--                     place, and is otherwise equal to that target
+--     told_of         the answer for the property at a place that an answer for all properties implies,
+--                     if any: if another property was found, this one is avoided up to the step before
+--     AnswersOne      the law: the implied answer is an answer for the one property alone
+--     NeverOne        the law: if no property is ever met at any speed, this one isn't met either
 use Rattle.std.specs.Prelude.{◌≡◌, ℕ, suc, zero, ◌∷◌, [], ◌==◌, Bool, false, Option, Some, None, IfSome, slice_get, if◌then◌else◌}
 use Rattle.chip_machine.specs.State.{State}
 use Rattle.chip_explore.specs.Answers.{Answers}

@@ -2,10 +2,10 @@
 -- Source: chosen by this project.
 --     value_in        the value of an item in a state
 --     sum_in          a constant plus each value times its factor, added without bound
---     is_related      whether two numbers are in a relation
---     compares        whether the two sides of a comparison are in its relation, in a state
+--     is_related      whether a relation holds between two numbers
+--     compares        whether the relation of a comparison holds between its two sides, in a state
 --     holds_in        whether all comparisons of a condition hold in a state, or at least one does
---     is_at           whether pc is at a place, if one is named
+--     is_at           whether pc is at a place; true if no place is given
 --     is_met          whether a machine is at the place of a property, and its condition holds or fails
 --                     there, whichever is wanted
 use Rattle.std.specs.Prelude.{ℕ, ◌+◌, ◌*◌, ◌==◌, ◌&&◌, not, nat_lt, nat_le, Bool, true, false, Option, Some, None, length, slice_index, sum_by, if◌then◌else◌}
@@ -35,7 +35,7 @@ asks_keys instr = false
 abbrev pub one_if : Bool → ℕ
 one_if test = if test then 1 else 0
 
--- the stored pixel for a column or row: a pixel of the low size is four stored ones, and the top left one counts
+-- the stored pixel for a column or row: a pixel of the low size is four stored pixels, and the top left one counts
 abbrev pub stored : (high : Bool) → ℕ → ℕ
 stored high place = if high then place else 2 * place
 

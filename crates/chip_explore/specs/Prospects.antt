@@ -1,4 +1,4 @@
--- Whether some goals can be reached from everywhere.
+-- Whether some goals can be reached from each state that a player can reach.
 -- Source: chosen by this project.
 --     are_met         whether a state meets each of some properties, even if the machine has stopped
 --     Agree           two key scripts have the same keys in each step below t
@@ -6,11 +6,11 @@
 --                     once, at step t or later
 --     AlwaysCan       `StillCan` for each key script, at each step up to n: from each state that a player
 --                     can reach, some way of playing leads to the goals
---     IsDeadEnd       under the events, only allowed keys are down below a step, and no key script that
---                     agrees with the events there meets the goals at a step from that one up to n
+--     IsDeadEnd       under the events, only allowed keys are down before a step, and no key script that
+--                     agrees with the events until then meets the goals from that step up to step n
 --     Foresees        the meaning of each answer: always: up to each step below `FAR`; a dead end: up to
 --                     each step below the end; within n: nothing
---     outcome_of      an answer as the outcome of a search
+--     outcome_of      an answer, converted to the outcome of a search
 use Rattle.std.specs.Prelude.{◌≡◌, ℕ, ◌+◌, ◌<◌, ◌≤◌, Bool, true, false, List}
 use Rattle.std.specs.List.{list_all}
 use Rattle.chip_machine.specs.Choices.{IsWithin}

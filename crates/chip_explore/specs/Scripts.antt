@@ -1,11 +1,11 @@
--- Key scripts, and states that none of them reaches.
+-- Key scripts, and states that no script reaches.
 -- Source: chosen by this project.
---     IsScript        a key script tells which keys are down in each step, and only allowed keys are
+--     IsScript        a key script determines the keys that are down in each step; all are allowed keys
 --     Avoids          no key script makes the machine meet the target at a step up to n
 --     keys_of         the key events, inserted one after another
---     are_in_order    true if the steps of events never fall and begin at a step or later, and each
---                     event is of one of the 16 keys
---     PressesOther    under the events, a key that isn't allowed is down at a step below one
+--     are_in_order    true if the steps of events never decrease and begin at a step or later, and each
+--                     event is for one of the 16 keys
+--     PressesOther    under the events, a key that isn't allowed is down before a step
 --     IsRefused       the events aren't in order, or press a key that isn't allowed; no other script
 --                     is refused
 use Rattle.std.specs.Prelude.{◌≡◌, ℕ, ◌<◌, ◌≤◌, ◌⊎◌, ◌&&◌, nat_lt, nat_le, Bool, true, false, None, List, [], ◌∷◌, fold}

@@ -18,7 +18,7 @@ run_ticking ticking held start zero = start
 run_ticking ticking held start (suc t) =
     step_of (run_ticking ticking held start t) (held t) (ticking t)
 
--- at every rate, and wherever the ticks fall
+-- at every rate, whichever steps tick
 abbrev pub AvoidsAtAnySpeed : (allowed : ℕ) → Target → State → ℕ → Type 0
 AvoidsAtAnySpeed allowed target start n =
     (ticking : ℕ → Bool) (held : ℕ → ℕ) → IsScript allowed held →

@@ -1,4 +1,4 @@
-//! The parts of a state that change seldom. States in which they are equal share them.
+//! The parts of a state that change rarely. States whose parts are equal share them.
 
 ghost use Rattle.std.specs.Prelude.{◌≡◌, ◌+◌, ◌*◌, ◌^◌, fold, IfOk, IsTrue, OnOk};
 ghost use Rattle.chip_explore.specs.inner.Kept.{state_with, with_byte, with_row};
@@ -11,8 +11,8 @@ use std::alloc::{AllocError, Global};
 use std::collections::HashMap;
 use std::rc::Rc;
 
-/// About how many bytes a backdrop takes, without the bytes and rows in which its memory and its screen
-/// differ from the base.
+/// The approximate size of a backdrop in bytes, excluding the bytes and rows in which its memory
+/// and its screen differ from the base.
 const BACKDROP_BYTES: u64 = 192;
 
 /// A byte of the memory that differs from the byte of the base.
@@ -42,19 +42,19 @@ pub(crate) struct Backdrop {
     pub(crate) rows: Vec<RowPatch>,
 }
 
-/// The backdrops of the kept states, by their sums. Nothing is claimed about them.
+/// The backdrops of the kept states, by their sums. This lookup is unverified.
 #[derive(Drop)]
 pub(crate) struct Backdrops {
     alloc: Global,
     by_sum: HashMap<u64, Rc<Backdrop>>,
-    /// About how many bytes all backdrops take.
+    /// The approximate number of bytes that all backdrops take.
     pub(crate) room: u64,
-    /// Whether a backdrop is new and hasn't been noted yet.
+    /// Whether there is a new backdrop that hasn't been noted yet.
     pub(crate) is_new: bool,
 }
 
 impl RowPatch {
-    /// The pixels of the row; the leftmost one is the highest bit.
+    /// The pixels of the row, with the leftmost pixel as the highest bit.
     fn points(self) -> u128
         ensures { result ≡ self.left * 2 ^ 64 + self.right }
     {
@@ -120,7 +120,7 @@ impl Backdrop {
         })
     }
 
-    /// About how many bytes the backdrop takes.
+    /// The approximate size of the backdrop in bytes.
     fn room(&self) -> u64 {
         let bytes = (self.bytes.len() as u64).saturating_mul(4);
         let rows = (self.rows.len() as u64).saturating_mul(24);
@@ -138,7 +138,7 @@ impl Backdrop {
         }
     }
 
-    /// Fills `rows` with the rows of the base, and puts the rows of the backdrop among them.
+    /// Fills `rows` with the rows of the base, and overwrites the rows that the backdrop contains.
     fn put_rows(&self, base: &Base, rows: &mut Vec<u128>) -> Result<(), AllocError>
         ensures { OnOk result (rows.new.items
             ≡ fold with_row base.now.rows.items self.now.rows.items) }
@@ -154,8 +154,8 @@ impl Backdrop {
         Ok(())
     }
 
-    /// Gives a machine the state that consists of a base, some parts and this backdrop. Returns whether
-    /// that was possible. `rows` is scratch space for the rows of the screen.
+    /// Loads into a machine the state that consists of a base, some parts and this backdrop.
+    /// Returns whether that was possible. `rows` is scratch space for the rows of the screen.
     pub(crate) fn load(
         &self,
         parts: &Parts,
@@ -189,7 +189,7 @@ impl Backdrops {
         }
     }
 
-    /// Returns the backdrop that has this sum. If none is kept yet, keeps the machine's.
+    /// Returns the backdrop with this sum. If there is none yet, stores the machine's backdrop.
     pub(crate) fn of(
         &mut self,
         base: &Base,

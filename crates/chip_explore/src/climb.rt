@@ -30,8 +30,8 @@ pub(crate) struct Climb {
 }
 
 impl Runner {
-    /// Makes at most `most` steps, of which the first is step `from`. Ends at a state that meets the
-    /// goals, at a stop, or at a state whose next step can tell keys or values of the delay timer apart.
+    /// Makes at most `most` steps, starting with step `from`. Ends at a state that meets the goals,
+    /// at a stop, or at a state whose next step can tell keys or values of the delay timer apart.
     pub(crate) fn climb(&mut self, setting: &Setting<'_>, from: u64, most: u32) -> Climb
         requires rate { 0 < setting.now.rate }
         ensures path { (v : View) (ranks : List ℕ) (rank : ℕ)
@@ -60,8 +60,8 @@ impl Runner {
         }
     }
 
-    /// Goes on from a state that meets the goals. Returns `None` if its next step can tell keys or values
-    /// of the delay timer apart, or if the sequence has its maximal length.
+    /// Continues from a state that meets the goals. Returns `None` if its next step can tell keys
+    /// or values of the delay timer apart, or if the sequence has its maximal length.
     pub(crate) fn climb_on(&mut self, setting: &Setting<'_>, climb: Climb) -> Option<Climb>
         requires { 0 < setting.now.rate }
     {
@@ -81,7 +81,7 @@ impl Runner {
         Some(self.climb(setting, climb.step + 1, climb.left - 1))
     }
 
-    /// How the sequence ends at a step, or `None` if it goes on.
+    /// How the sequence ends at a step, or `None` if it continues.
     fn way(&mut self, setting: &Setting<'_>, step: u64, left: u32) -> Option<Way>
         ensures same { self.new.machine ≡ self.old.machine }
         ensures forgotten { self.new.forgotten ≡ self.old.forgotten }

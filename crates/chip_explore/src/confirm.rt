@@ -1,4 +1,4 @@
-//! Runs a key script that a search found once more.
+//! Runs a key script again after a search found it.
 
 ghost use Rattle.std.specs.Prelude.{◌≡◌, ◌<◌, ◌+◌, length, slice_index_or, slice_set, IfOk, IfSome, IsNone, IsTrue, true, false};
 ghost use Rattle.chip_machine.specs.Block.{ticks};
@@ -39,7 +39,7 @@ impl Played {
         }
     }
 
-    /// Applies the events of a step. The events of earlier steps were applied before.
+    /// Applies the events of a step. The events of earlier steps have been applied already.
     fn pass(&mut self, events: &[KeyEvent], step: u32)
         requires { IsPlayed events.now step step self.old }
         ensures { IsPlayed events.now (step + 1) (step + 1) self.new }
@@ -54,7 +54,7 @@ impl Played {
     }
 }
 
-/// Returns the mask of the keys that are down after one of them went down or up.
+/// Returns the mask of the keys that are down after one key went down or up.
 fn with_key(keys: u16, down: &[bool; KEY_COUNT], key: usize, is_down: bool) -> u16
     requires key { key < KEY_COUNT }
     requires mask { keys ≡ mask (λ k. slice_index_or down.now k false) 16 }
@@ -63,7 +63,7 @@ fn with_key(keys: u16, down: &[bool; KEY_COUNT], key: usize, is_down: bool) -> u
     keys - (u16::from(down[key]) << key) + (u16::from(is_down) << key)
 }
 
-/// Whether the steps of the events never fall, and each event is of one of the 16 keys.
+/// Whether the steps of the events never decrease, and each event is for one of the 16 keys.
 fn are_in_order(events: &[KeyEvent]) -> bool
     ensures { result ≡ are_in_order 0 events.now }
 {
@@ -77,7 +77,7 @@ fn are_in_order(events: &[KeyEvent]) -> bool
     true
 }
 
-/// Whether some keys include one that isn't allowed.
+/// Whether a mask of keys includes a key that isn't allowed.
 fn presses_other(keys: u16, allowed: u16) -> bool
     ensures other { IsTrue result → IsWithin allowed keys → ⊥ }
     ensures within { result ≡ false → IsWithin allowed keys }
@@ -93,8 +93,8 @@ fn ticks(rate: u32, step: u32) -> bool
     (u64::from(step) + 1) % u64::from(rate) == 0
 }
 
-/// Returns the machine at a step under some events, if only allowed keys are down before it. Returns
-/// `None` if the events aren't in order, or if other keys are down.
+/// Returns the machine at a step under some events, if only allowed keys are down before that step.
+/// Returns `None` if the events aren't in order, or if other keys are down.
 pub(crate) fn machine_under(
     alloc: Global,
     start: &Machine,

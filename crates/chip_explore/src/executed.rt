@@ -1,4 +1,4 @@
-//! The addresses at which a search saw steps made.
+//! The addresses at which a search saw steps executed.
 
 ghost use Rattle.std.specs.Prelude.{◌≡◌, true};
 ghost use Rattle.chip_explore.specs.Executed.{is_among, is_at_one};
@@ -8,10 +8,10 @@ use chip_machine::Machine;
 use chip_machine::limits::MEMORY_BYTES;
 use std::marker::Model;
 
-/// The addresses at which a search saw a step made, with some of the allowed keys down.
+/// The addresses at which a search saw a step executed, with some of the allowed keys down.
 #[derive(Clone, Copy)]
 pub struct Executed {
-    /// Whether a step was made at an address, for each byte of the memory.
+    /// Whether a step was executed at an address, for each byte of the memory.
     addresses: [bool; MEMORY_BYTES],
 }
 
@@ -26,14 +26,14 @@ impl Model for Executed {
 }
 
 impl Executed {
-    /// Returns no address.
+    /// Returns the empty set of addresses.
     pub(crate) fn none() -> Executed {
         Executed {
             addresses: [false; MEMORY_BYTES],
         }
     }
 
-    /// Returns the address of a machine's next step, or no address if it has stopped.
+    /// Returns a set with the address of a machine's next step, or the empty set if the machine has stopped.
     pub(crate) fn at(machine: &Machine) -> Executed
         ensures { is_at_one result machine.now ≡ true }
     {
@@ -44,7 +44,7 @@ impl Executed {
         executed
     }
 
-    /// Notes an address at which a step is made.
+    /// Adds an address at which a step is executed.
     pub(crate) fn note(&mut self, address: u16)
         ensures grows { Grows self.old self.new }
         ensures noted { is_among self.new address ≡ true }
@@ -54,15 +54,15 @@ impl Executed {
         }
     }
 
-    /// For each address, whether a step was made there.
+    /// For each address, whether a step was executed there.
     pub fn addresses(&self) -> &[bool]
         ensures { result.now ≡ self.now }
     {
         &self.addresses
     }
 
-    /// Whether a step was made at an address. Addresses past the memory, where each step stops the
-    /// machine, always count as such.
+    /// Whether a step was executed at an address. Addresses past the memory, where each step stops
+    /// the machine, always count as executed.
     pub fn contains(&self, address: u16) -> bool
         ensures { result ≡ is_among self.now address }
     {

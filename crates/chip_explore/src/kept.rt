@@ -36,7 +36,7 @@ pub(crate) struct Kept {
     pub(crate) registers: [u8; 16],
     pub(crate) index: u16,
     pub(crate) pc: u16,
-    /// The place on the tape.
+    /// The place on the tape of random bytes.
     pub(crate) draws: u16,
     pub(crate) delay: u8,
     pub(crate) backdrop: Rc<Backdrop>,
@@ -57,8 +57,8 @@ impl Base {
 }
 
 impl Kept {
-    /// Returns the state of a machine; `sum` is the sum of its backdrop. Nothing is claimed about the
-    /// result, because it is loaded again and compared.
+    /// Returns the stored state of a machine; `sum` is the sum of its backdrop. The result is
+    /// unverified, because callers load it again and compare.
     pub(crate) fn of(
         base: &Base,
         machine: &Machine,
@@ -110,8 +110,8 @@ impl Kept {
         parts
     }
 
-    /// Gives a machine this state. Returns whether that was possible. `rows` is scratch space for the
-    /// rows of the screen.
+    /// Loads this state into a machine. Returns whether that was possible. `rows` is scratch space
+    /// for the rows of the screen.
     pub(crate) fn load(
         &self,
         base: &Base,
@@ -124,8 +124,8 @@ impl Kept {
         self.backdrop.load(&self.parts(), base, machine, rows)
     }
 
-    /// Gives a machine the state after the next step, which sets a register to the delay timer, if the timer
-    /// has this value. Returns whether that was possible. `rows` is scratch space for the rows of the screen.
+    /// Loads into a machine the state after the next step, which sets a register to the delay timer, assuming that the
+    /// timer has this value. Returns whether that was possible. `rows` is scratch space for the rows of the screen.
     pub(crate) fn load_read(
         &self,
         register: u8,
@@ -143,8 +143,8 @@ impl Kept {
         self.backdrop.load(&parts, base, machine, rows)
     }
 
-    /// Whether this is the state of a machine, except for what no later step depends on. If true, this is
-    /// proved; if false, it may still be that state. `probe` is scratch space for the state.
+    /// Whether this is the state of a machine, except for parts that no later step depends on. If true, this is proved;
+    /// if false, it may still be that state. `probe` is scratch space for the state.
     pub(crate) fn is_of(
         &self,
         base: &Base,

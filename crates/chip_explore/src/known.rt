@@ -12,7 +12,7 @@ use chip_machine::Forgotten;
 pub(crate) struct Known {
     /// The forgotten parts of the state.
     pub(crate) forgotten: Forgotten,
-    /// Whether the delay timer is that of a run, and not just a bound of it.
+    /// Whether the delay timer has the value of a run, and not only an upper bound.
     pub(crate) has_delay: bool,
     /// The address of the next instruction.
     pub(crate) pc: u16,
@@ -64,7 +64,7 @@ impl Known {
         !property.is_at(pc) || self.has_condition(&property.condition)
     }
 
-    /// Whether all values are known that the properties evaluated at `pc` use.
+    /// Whether all values that the properties evaluated at `pc` use are known.
     pub(crate) fn has_properties(&self, pc: u16, properties: &[Property]) -> bool
         ensures { result ≡ list_all (λ p. is_property_known self.now pc p) properties.now }
     {

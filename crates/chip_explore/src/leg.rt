@@ -42,7 +42,7 @@ pub(crate) struct Runner {
     pub(crate) machine: Machine,
     /// The forgotten parts of its state.
     pub(crate) forgotten: Forgotten,
-    /// The forgotten parts that were needed where it last ended.
+    /// The forgotten parts that were needed when its last sequence of steps ended.
     pub(crate) read: Forgotten,
     /// Whether its next step tells neither keys nor values of the delay timer apart.
     pub(crate) is_quiet: bool,
@@ -68,9 +68,9 @@ impl Runner {
         })
     }
 
-    /// Makes steps, of which the first is step `from`, up to the limit, to a stop, or to a state whose
-    /// next step can tell keys or values of the delay timer apart or needs something that is forgotten.
-    /// Notes the addresses of these steps and of that next one.
+    /// Makes steps, starting with step `from`. Ends at the limit, at a stop, or at a state whose
+    /// next step can tell keys or values of the delay timer apart or needs something that is
+    /// forgotten. Notes the addresses of these steps and of that next step.
     pub(crate) fn run(
         &mut self,
         setting: &Setting<'_>,
@@ -108,8 +108,8 @@ impl Runner {
         }
     }
 
-    /// Overwrites the bytes that are to be forgotten with those of a base, so that states that differ
-    /// only there become equal.
+    /// Overwrites the bytes that are to be forgotten with those of a base, so that states that
+    /// differ only in these bytes become equal.
     pub(crate) fn erase(&mut self, parts: Forgotten, base: &Base)
         ensures alike { Alike parts self.new.machine self.old.machine }
         ensures same { self.new.forgotten ≡ self.old.forgotten }
@@ -117,8 +117,8 @@ impl Runner {
         erase(&mut self.machine, parts, base.machine.memory());
     }
 
-    /// Why the sequence ends at a step, or `None` if it goes on. If the machine makes a step, notes its
-    /// address.
+    /// Why the sequence ends at a step, or `None` if it continues. If the machine makes a step,
+    /// notes the step's address.
     fn end(
         &mut self,
         setting: &Setting<'_>,

@@ -1,5 +1,5 @@
-//! A search over all key scripts. It finds key events that make a machine stop for a wanted cause, come
-//! to an address or meet a property, or reports that no key script does.
+//! A search over all key scripts. It finds key events that make a machine stop for a wanted cause,
+//! reach an address or meet a property, or reports that no key script can.
 #![tactic(auto)]
 
 mod backdrop;

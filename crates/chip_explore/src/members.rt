@@ -14,8 +14,8 @@ use crate::setting::Setting;
 use chip_machine::{Forgotten, Machine};
 use std::alloc::{AllocError, Global};
 
-/// The kept states, each with its forgotten parts and the least step at which it was reached, and which
-/// of them were taken up.
+/// The kept states, each with its forgotten parts, the least step at which it was reached, and
+/// whether it was taken up.
 pub(crate) struct Members {
     pub(crate) start: Machine,
     /// The base that the states are compared with.
@@ -24,9 +24,9 @@ pub(crate) struct Members {
     pub(crate) forgotten: Vec<Forgotten>,
     pub(crate) steps: Vec<u64>,
     pub(crate) closed: Vec<bool>,
-    /// The search is about steps below this one.
+    /// The search is about steps below this step.
     pub(crate) limit: u64,
-    /// The addresses at which the search saw steps made.
+    /// The addresses at which the search saw steps executed.
     pub(crate) executed: Executed,
 }
 
@@ -47,7 +47,7 @@ impl Drop for Members {
 }
 
 impl Members {
-    /// Returns members without a state, for a search about all steps.
+    /// Returns a collection without states, for a search about all steps.
     pub(crate) fn new(alloc: Global, start: &Machine, base: Base) -> Result<Members, AllocError>
         ensures start { IfOk result (λ members. members.start ≡ start.now) }
         ensures empty { IfOk result (λ members. members.steps.items ≡ []) }
@@ -71,8 +71,8 @@ impl Members {
         })
     }
 
-    /// Gives a machine the state of a place. Returns whether that was possible. `rows` is scratch space
-    /// for the rows of the screen.
+    /// Loads the state at a place into a machine. Returns whether that was possible. `rows` is
+    /// scratch space for the rows of the screen.
     pub(crate) fn load(
         &self,
         place: usize,
@@ -86,9 +86,9 @@ impl Members {
         self.states[place].load(&self.base, machine, rows)
     }
 
-    /// Gives a machine the state after the next step of the state of a place, which sets a register to
-    /// the delay timer, if the timer has this value. Returns whether that was possible. `rows` is scratch
-    /// space for the rows of the screen.
+    /// Loads into a machine the state after the next step of the state at a place. That step sets a
+    /// register to the delay timer, which is assumed to have this value. Returns whether that was
+    /// possible. `rows` is scratch space for the rows of the screen.
     pub(crate) fn load_read(
         &self,
         place: usize,
@@ -107,7 +107,7 @@ impl Members {
         self.states[place].load_read(register, value, &self.base, machine, rows)
     }
 
-    /// Returns the least step at which the state of a place was reached.
+    /// Returns the least step at which the state at a place was reached.
     pub(crate) fn step(&self, place: usize) -> u64
         requires { place < length self.now.steps.items }
         ensures { result ≡ slice_index self.now.steps.items place }
@@ -115,7 +115,7 @@ impl Members {
         self.steps[place]
     }
 
-    /// Whether a place holds a state that was reached at a step and is still to be taken up.
+    /// Whether a place contains a state that was reached at a step and hasn't been taken up yet.
     pub(crate) fn is_open(&self, place: usize, step: u64) -> bool
         ensures { IsTrue result → place < length self.now.steps.items }
     {
@@ -125,9 +125,9 @@ impl Members {
             && !self.closed[place]
     }
 
-    /// Whether a place holds a state that is like this one except for the forgotten parts of the kept
-    /// state, with the ticks as at a step. The forgotten parts of this state are among those. If true,
-    /// this is proved; if false, it may still hold. `probe` is scratch space for the state.
+    /// Whether a place contains a state that is like this one except for the forgotten parts of the kept state, with
+    /// the ticks as at a step. The forgotten parts of this state are among those of the kept state. If true, this is
+    /// proved; if false, it may still hold. `probe` is scratch space for the state.
     pub(crate) fn is_at(
         &self,
         setting: &Setting<'_>,
@@ -154,8 +154,8 @@ impl Members {
     }
 
     /// Keeps the state of a machine, which was reached at a step, without the parts that are to be
-    /// forgotten. Returns whether `kept` is that state. `probe` is scratch space for the state. Takes all
-    /// memory before the first change.
+    /// forgotten. Returns whether `kept` is that state. `probe` is scratch space for the state.
+    /// Allocates all memory before the first change.
     pub(crate) fn add(
         &mut self,
         setting: &Setting<'_>,
@@ -239,7 +239,7 @@ impl Members {
         covered
     }
 
-    /// Returns that step, or 0 if the members are about no step.
+    /// Returns the result of `covered`, or 0 if the search is about no step.
     pub(crate) fn covered_or_none(&self) -> u64 {
         if self.limit == 0 { 0 } else { self.covered() }
     }

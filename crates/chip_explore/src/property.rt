@@ -31,8 +31,8 @@ pub enum Item {
     AsksKeys,
     /// The byte at an address, or 0 past the end of the memory.
     Byte(u16),
-    /// 1 if the pixel at a column and a row is lit, otherwise 0. Both are counted in pixels of the
-    /// screen's present size.
+    /// 1 if the pixel at a column and a row is lit, otherwise 0. Columns and rows are counted in
+    /// pixels of the screen's current size.
     Pixel { x: u8, y: u8 },
 }
 
@@ -69,22 +69,22 @@ pub struct Comparison {
     pub right: Sum,
 }
 
-/// Some comparisons, of which all or at least one must hold.
+/// A list of comparisons. Either all of them or at least one must hold.
 #[derive(Drop)]
 pub struct Condition {
-    /// Whether all must hold, which is true of an empty list; otherwise at least one must.
+    /// Whether all comparisons must hold, as they do in an empty list; otherwise at least one must hold.
     pub is_all: bool,
     pub comparisons: Vec<Comparison>,
 }
 
-/// A state that is looked for: the machine makes a step, at the given place if there is one, and the
-/// condition holds or doesn't hold.
+/// A kind of state to look for: the machine makes a step, at `place` if it is given, and the
+/// condition holds or fails, as `wanted` states.
 #[derive(Drop)]
 pub struct Property {
     pub condition: Condition,
     /// The address at which the property is evaluated, or `None` to evaluate it before each step.
     pub place: Option<u16>,
-    /// Whether the condition has to hold, or has to fail.
+    /// Whether the condition has to hold; otherwise it has to fail.
     pub wanted: bool,
 }
 
@@ -106,7 +106,7 @@ impl Item {
         }
     }
 
-    /// Returns those of the forgotten parts that the item names, for a machine at `pc`.
+    /// Returns the forgotten parts that the item names, for a machine at `pc`.
     fn named(self, forgotten: Forgotten, pc: u16) -> Forgotten {
         let named = match self {
             Item::Register(x) => Forgotten::register(x),
@@ -130,7 +130,7 @@ fn asks_keys(machine: &Machine) -> bool
     )
 }
 
-/// Whether the pixel at a column and a row is lit. Both are counted in pixels of the screen's present size.
+/// Whether the pixel at a column and a row is lit. Columns and rows are counted in pixels of the screen's current size.
 fn is_lit(machine: &Machine, x: u8, y: u8) -> bool
     ensures { result ≡ (spec.is_lit machine.now.core.lit (stored machine.now.core.high x)
         (stored machine.now.core.high y)) }
@@ -254,7 +254,7 @@ impl Property {
         })
     }
 
-    /// Returns those of the forgotten parts that the property names, for a machine at `pc`.
+    /// Returns the forgotten parts that the property names, for a machine at `pc`.
     pub(crate) fn named(&self, forgotten: Forgotten, pc: u16) -> Forgotten {
         let mut named = Forgotten::nothing();
         for comparison in &self.condition.comparisons {

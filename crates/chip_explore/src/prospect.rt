@@ -1,4 +1,4 @@
-//! Whether goals can be reached from everywhere, and the answer.
+//! Whether goals can be reached from each state that a player can reach, and the answer.
 
 ghost use Rattle.std.specs.Prelude.{◌≡◌, ◌<◌, ◌≤◌, ℕ, IfOk, IsTrue, is_some, false};
 ghost use Rattle.chip_machine.specs.State.{State};
@@ -42,10 +42,10 @@ pub struct Pursuit<'a> {
 pub enum Prospect {
     /// From each state that a player can reach at a step below `FAR`, some way of playing leads to the goals.
     Always,
-    /// With these key events, in the order of their steps, the machine is at the step in a state from
-    /// which no way of playing leads to the goals.
+    /// With these key events, in the order of their steps, the machine is in a dead end at `step`:
+    /// no way of playing leads from there to the goals.
     DeadEnd { events: Vec<KeyEvent>, step: u32 },
-    /// The search came to this step, and nothing is known.
+    /// The search reached this step without an answer.
     Within(u64),
 }
 
@@ -55,12 +55,12 @@ pub struct Foreseen {
     pub prospect: Prospect,
     /// How many states the search kept.
     pub states: usize,
-    /// Whether memory ran out before the search was done, so that the answer may say less.
+    /// Whether memory ran out before the search was done, so that the answer may be weaker.
     pub is_short: bool,
-    /// Whether the watcher ended the search before it was done, so that the answer may say less.
+    /// Whether the watcher ended the search before it was done, so that the answer may be weaker.
     pub is_stopped: bool,
     /// Whether a search ended because it held more bytes than `Bounds::memory` allows, so that the
-    /// answer may say less.
+    /// answer may be weaker.
     pub is_at_memory: bool,
 }
 
@@ -99,7 +99,7 @@ impl Foreseen {
         }
     }
 
-    /// Returns an answer together with what it reports about its search.
+    /// Returns an answer with the facts about its search.
     fn of(search: &Search, is_short: bool, prospect: Prospect) -> Foreseen
         ensures { result.prospect ≡ prospect }
     {
@@ -112,7 +112,7 @@ impl Foreseen {
         }
     }
 
-    /// Returns the answer after a search for the goals, which may have ended before it was done.
+    /// Returns the answer after a search for the goals, which may have ended early.
     fn after(self, verdict: Verdict) -> Foreseen
         ensures { result.prospect ≡ self.prospect }
     {
@@ -128,9 +128,9 @@ impl Foreseen {
     }
 }
 
-/// Whether, from each state that a machine comes to under the allowed keys, some way of playing leads to
-/// the goals. The machine must not have drawn a random byte. First, a search by the least step looks for
-/// stops that don't meet the goals. If it comes to its end, the goals are sought from each of its states.
+/// Whether, from each state that a machine reaches under the allowed keys, some way of playing leads to the goals. The
+/// machine must not have drawn a random byte. A first search, by the least step, looks for stops that don't meet the
+/// goals. If that search is complete, the function looks for the goals from each of its states.
 pub fn foresee<W: Watcher>(
     alloc: Global,
     start: &Machine,
@@ -223,8 +223,8 @@ fn foreseen_by<W: Watcher>(
     })
 }
 
-/// Whether the goals can be reached from each state on the way of a search that came to its end, as the
-/// ranks say. If true, this is proved; if false, it may still hold.
+/// Whether the ranks show that the goals can be reached from each state that a complete search
+/// passed. If true, this is proved; if false, it may still hold.
 fn always_can(
     search: &mut Search,
     setting: &Setting<'_>,
@@ -272,13 +272,13 @@ fn way_to(alloc: Global, search: &Search, loss: Option<Loss>) -> Result<Option<W
 /// The verdict on the state that a way leads to.
 #[derive(Clone, Copy)]
 struct Verdict {
-    /// Whether no way of playing leads from it to the goals.
+    /// Whether no way of playing leads from that state to the goals.
     is_lost: bool,
     /// Whether memory ran out before the search for the goals was done.
     is_short: bool,
     /// Whether the watcher ended that search before it was done.
     is_stopped: bool,
-    /// That search ended because it held too many bytes.
+    /// Whether that search ended because it held too many bytes.
     is_at_memory: bool,
 }
 
@@ -296,8 +296,8 @@ impl Verdict {
     }
 }
 
-/// Judges the state that a machine comes to by a way. If the verdict is lost, no way of playing leads
-/// from it to the goals.
+/// Judges the state that a machine reaches by a way. If the verdict is lost, no way of playing
+/// leads from that state to the goals.
 fn judge<W: Watcher>(
     alloc: Global,
     start: &Machine,
@@ -325,7 +325,7 @@ fn judge<W: Watcher>(
     seek_goals(alloc, &beginning, setting, bounds, watcher)
 }
 
-/// Seeks the goals from a machine at a step. If the verdict is lost, no way of playing leads to them.
+/// Searches for the goals from a machine at a step. If the verdict is lost, no way of playing leads to the goals.
 fn seek_goals<W: Watcher>(
     alloc: Global,
     beginning: &Beginning<'_>,

@@ -34,13 +34,13 @@ pub struct Question<'a> {
     pub target: Target<'a>,
 }
 
-/// How a search treats the ticks of the timers. What its answer says about the rate is the same in each case.
+/// How a search treats the ticks of the timers. Its answer means the same at the rate in each case.
 #[derive(Clone, Copy, PartialEq, Eq)]
 pub enum Ticks {
     /// Only at the rate, so that every step that the search sees is a step at the rate.
     AtRate,
-    /// First as if the timers might or might not tick after any step, with a part of the states. If that
-    /// gives no answer, a search at the rate follows.
+    /// First as if the timers might or might not tick after any step, with a part of the allowed
+    /// states. If that search has no answer, a search at the rate follows.
     Free,
     /// Like `Free`, but with all states.
     FreeWithAll,
@@ -55,9 +55,9 @@ pub struct Bounds {
     pub states: usize,
     /// The search ends when it holds more than this many bytes.
     pub memory: u64,
-    /// Whether a search that ends because of `states` or `memory` is followed by one that takes up the
-    /// deepest states first, within the same bounds, and whether an answer may have a script that isn't a
-    /// first one.
+    /// Whether a search that ends because of `states` or `memory` is followed by one that takes up
+    /// the deepest states first, within the same bounds. The answer may then contain a script that
+    /// isn't the earliest one.
     pub is_deep: bool,
     pub ticks: Ticks,
 }
@@ -65,28 +65,28 @@ pub struct Bounds {
 /// The answer of a search.
 #[derive(Drop)]
 pub enum Outcome {
-    /// With these key events, in the order of their steps, the machine meets the target at `step`, as
-    /// `met` says. No key script makes it meet the target earlier.
+    /// With these key events, in the order of their steps, the machine meets the target at `step`,
+    /// as `met` states. No key script makes it meet the target earlier.
     Found {
         events: Vec<KeyEvent>,
         step: u32,
         met: Met,
     },
-    /// With these key events, the machine meets the target at `step`, as `met` says. No key script makes
-    /// it meet the target at a step up to `covered`.
+    /// With these key events, the machine meets the target at `step`, as `met` states. No key
+    /// script makes it meet the target at a step up to `covered`.
     Later {
         events: Vec<KeyEvent>,
         step: u32,
         met: Met,
         covered: u64,
     },
-    /// No key script makes the machine meet the target at a step up to this one.
+    /// No key script makes the machine meet the target at a step up to this step.
     Within(u64),
     /// No key script makes the machine meet the target at any step below `END`.
     Never,
 }
 
-/// The answer of a search, and what the search saw on the way.
+/// The answer of a search, and facts about the search.
 #[derive(Drop)]
 pub struct Explored {
     pub outcome: Outcome,
@@ -94,20 +94,20 @@ pub struct Explored {
     pub seen: Seen,
     /// The largest number of states that the search kept, plus those of a deep search after it.
     pub states: usize,
-    /// The addresses at which the search saw steps made: those of each step, under any key script, at
-    /// which the outcome says that the target isn't met, and maybe those of later steps.
+    /// The addresses at which the search saw steps executed: those of each step, under any key script, at which the
+    /// target isn't met according to the outcome, and maybe those of later steps.
     pub executed: Executed,
-    /// Whether memory ran out before the search was done, so that the outcome may say less.
+    /// Whether memory ran out before the search was done, so that the outcome may be weaker.
     pub is_short: bool,
-    /// Whether the watcher ended the search before it was done, so that the outcome may say less.
+    /// Whether the watcher ended the search before it was done, so that the outcome may be weaker.
     pub is_stopped: bool,
-    /// Whether the search ended because it held more bytes than `Bounds::memory` allows, so that the
-    /// outcome may say less.
+    /// Whether the search ended because it held more bytes than `Bounds::memory` allows, so that
+    /// the outcome may be weaker.
     pub is_at_memory: bool,
     /// Whether no key script makes the machine meet the target at any step below `END`, whenever the
     /// timers tick.
     pub is_at_any_speed: bool,
-    /// Whether it had free ticks and a delay timer above 0, so that less may be met at the rate.
+    /// Whether the search had free ticks and a delay timer above 0, so that less may be met at the rate.
     pub(crate) is_timed: bool,
 }
 
@@ -172,7 +172,7 @@ impl Explored {
         }
     }
 
-    /// Returns the answer of a search that came to its end.
+    /// Returns the answer of a search that has ended.
     fn after(search: &Search, outcome: Outcome, is_short: bool) -> Explored
         ensures outcome { result.outcome ≡ outcome }
         ensures executed { result.executed ≡ search.now.members.executed }
@@ -189,7 +189,7 @@ impl Explored {
         }
     }
 
-    /// Whether a search with these bounds answers all that is asked for.
+    /// Whether this answer is complete for a search with these bounds.
     fn is_whole(&self, bounds: &Bounds) -> bool {
         match self.outcome {
             Outcome::Never | Outcome::Found { .. } => true,
@@ -198,14 +198,14 @@ impl Explored {
         }
     }
 
-    /// Whether a search at the rate has to follow one with free ticks, because that one doesn't answer
-    /// everything, or because it met other causes, whose least steps at the rate are reported.
+    /// Whether a search at the rate has to follow this search with free ticks, because this answer isn't complete, or
+    /// because other causes were met, whose least steps at the rate are reported.
     fn needs_rate(&self, bounds: &Bounds) -> bool {
         self.is_timed && !self.is_stopped && (!self.is_whole(bounds) || self.seen.is_any())
     }
 
-    /// Whether this answer of a search with free ticks says more than the outcome of a search at the
-    /// rate.
+    /// Whether this answer of a search with free ticks is stronger than the outcome of a search at
+    /// the rate.
     fn says_more_than(&self, rated: &Outcome) -> bool {
         match (&self.outcome, rated) {
             (Outcome::Never, _) => true,
@@ -215,8 +215,8 @@ impl Explored {
         }
     }
 
-    /// Returns the answer of this search, which covered the steps up to `covered`, together with what a
-    /// deep search after it found.
+    /// Returns the answer of this search, which covered the steps up to `covered`, combined with
+    /// the result of a deep search after it.
     fn deepened_by(self, deep: Explored, covered: u64) -> Explored
         ensures outcome { result.outcome ≡ later_of covered deep.outcome }
         ensures executed { result.executed ≡ self.executed }
@@ -233,8 +233,8 @@ impl Explored {
         }
     }
 
-    /// Returns the other causes whose first step at the rate is still unknown, if this search answers all
-    /// else; otherwise none.
+    /// Returns the other causes whose first step at the rate is still unknown, if everything else
+    /// is answered; otherwise none.
     fn awaited(&self, bounds: &Bounds) -> Seen {
         if self.is_whole(bounds) {
             self.seen
@@ -243,8 +243,8 @@ impl Explored {
         }
     }
 
-    /// The step up to which the target is avoided, if a deep search has to follow: the bounds ask for
-    /// one, and this search ended because it kept as many states, or held as many bytes, as it may.
+    /// The step up to which the target is avoided, if a deep search has to follow: the bounds ask
+    /// for one, and this search ended at its limit of states or of bytes.
     fn covered_where_full(&self, bounds: &Bounds) -> Option<u64>
         ensures within { IfSome result (λ covered. self.now.outcome ≡ Within covered) }
         ensures deep { IsSome result → bounds.now.is_deep ≡ true }
@@ -264,9 +264,9 @@ impl Explored {
     }
 }
 
-/// Finds out whether some key script, with allowed keys only, makes a machine meet the target. The
-/// machine must not have drawn a random byte. States are taken up by the least step first, and then by
-/// the greatest, if the bounds say so. The ticks are free at first, if the bounds say so.
+/// Finds out whether some key script, with allowed keys only, makes a machine meet the target. The machine must not
+/// have drawn a random byte. States are taken up by the least step first, and then by the greatest, if the bounds ask
+/// for it. The ticks are free at first, if the bounds ask for it.
 pub fn explore<W: Watcher>(
     alloc: Global,
     start: &Machine,
@@ -326,7 +326,7 @@ struct Attempt {
     is_refuted: bool,
 }
 
-/// Makes a search with free ticks, and one at the rate after it if that is needed.
+/// Searches with free ticks, and then at the rate if that is needed.
 fn search_by_step<W: Watcher>(
     alloc: Global,
     start: &Machine,
@@ -346,8 +346,8 @@ fn search_by_step<W: Watcher>(
     }
 }
 
-/// Combines a search with free ticks and a search at the rate after it. If the first answered everything
-/// that is asked for, the second ends once it has met the other causes that the first one met.
+/// Combines a search with free ticks and a later search at the rate. If the first search answered
+/// everything, the second one ends once it has met the other causes that the first one met.
 fn rated<W: Watcher>(
     alloc: Global,
     start: &Machine,
@@ -383,8 +383,8 @@ fn rated<W: Watcher>(
     }
 }
 
-/// Returns the answer of a search that covered the steps up to `covered`, after a search of the deepest
-/// states first. What that second search covers is not relied on.
+/// Returns the answer of a search that covered the steps up to `covered`, combined with a second search that takes up
+/// the deepest states first. The steps that the second search covers don't count.
 fn deepened<W: Watcher>(
     alloc: Global,
     start: &Machine,
@@ -417,8 +417,8 @@ fn deepened<W: Watcher>(
     }
 }
 
-/// Makes a search in an order, given the causes that were met before it. Begins anew when a step refutes
-/// what the search assumed.
+/// Searches in an order, given the causes that were met before. Restarts when a step refutes an
+/// assumption of the search.
 fn search<W: Watcher>(
     alloc: Global,
     start: &Machine,
@@ -453,7 +453,7 @@ fn search<W: Watcher>(
     Ok(last.explored)
 }
 
-/// Makes one search. Fails if memory runs out at its start.
+/// Runs one search. Fails if memory runs out at its start.
 fn search_once<W: Watcher>(
     alloc: Global,
     start: &Machine,
@@ -499,8 +499,8 @@ fn covered_by(setting: &Setting<'_>, members: &Members) -> u64
     members.covered()
 }
 
-/// Returns the step up to which an answer says that no key script makes the machine meet the target: the
-/// covered one, or the last one that is asked for.
+/// Returns the step up to which an answer states that no key script makes the machine meet the
+/// target: the covered step, but at most the last step that was asked for.
 fn told_up_to(setting: &Setting<'_>, members: &Members, covered: u64, last: u64) -> u64
     requires below { covered < members.now.limit }
     requires covers { Covers setting.now members.now.executed members.now.start covered }
@@ -511,7 +511,7 @@ fn told_up_to(setting: &Setting<'_>, members: &Members, covered: u64, last: u64)
     covered.min(last)
 }
 
-/// Returns the answer that the kept states give.
+/// Returns the answer that follows from the kept states.
 fn explored_by(
     alloc: Global,
     setting: &Setting<'_>,
@@ -547,8 +547,8 @@ fn explored_by(
     }
 }
 
-/// Returns what the search found at the step after the covered ones, or at a later step if an answer may
-/// have a script that isn't a first one.
+/// Returns the result of the search at the step after the covered steps, or at a later step if an
+/// answer may contain a script that isn't the earliest one.
 fn found_after(
     alloc: Global,
     setting: &Setting<'_>,

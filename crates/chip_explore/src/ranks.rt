@@ -12,8 +12,8 @@ use crate::sum::Sums;
 use std::alloc::AllocError;
 
 impl Search {
-    /// Whether the state of a place meets the goals and hasn't stopped. If so, the runner has that state
-    /// afterwards.
+    /// Whether the state at a place meets the goals and hasn't stopped. If so, the runner has that
+    /// state afterwards.
     pub(crate) fn is_at_goals(
         &mut self,
         setting: &Setting<'_>,
@@ -40,8 +40,8 @@ impl Search {
         )
     }
 
-    /// Gives the runner the state after the next step of the state of a place, with these keys down.
-    /// Returns whether that was possible.
+    /// Loads into the runner the state after the next step of the state at a place, with these keys
+    /// down. Returns whether that was possible.
     pub(crate) fn step_from(
         &mut self,
         setting: &Setting<'_>,
@@ -119,8 +119,8 @@ impl Search {
         }
     }
 
-    /// Whether some steps from the state of a place, with these keys down in the first one, lead to the
-    /// goals or to a state of a lesser rank. If true, this is proved; if false, it may still hold.
+    /// Whether some steps from the state at a place, with these keys down in the first step, lead to the goals or to a
+    /// state of a smaller rank. If true, this is proved; if false, it may still hold.
     fn is_ranked(
         &mut self,
         setting: &Setting<'_>,
@@ -159,8 +159,8 @@ impl Search {
         }
     }
 
-    /// Whether the same holds for each state, with the keys at its place. If true, this is proved; if
-    /// false, it may still hold.
+    /// Whether `is_ranked` holds for each state, with the keys at its place. If true, this is
+    /// proved; if false, it may still hold.
     pub(crate) fn are_ranked(
         &mut self,
         setting: &Setting<'_>,

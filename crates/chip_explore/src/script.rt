@@ -13,8 +13,7 @@ pub struct KeyEvent {
     pub down: bool,
 }
 
-/// Returns the steps with some keys down on the way to a state that was reached in this way, the last one
-/// first.
+/// Returns the steps with some keys down on the way to a state of this origin, the last step first.
 fn presses(alloc: Global, finder: &Finder, last: Origin) -> Result<Vec<Origin>, AllocError> {
     let mut presses = Vec::new(alloc);
     let mut origin = last;
@@ -33,8 +32,8 @@ fn presses(alloc: Global, finder: &Finder, last: Origin) -> Result<Vec<Origin>, 
     Ok(presses)
 }
 
-/// Adds the events of a press: its keys go down, and up one step later. If an earlier event has a key go
-/// up at the step of the press, that event is removed instead, and the key stays down.
+/// Adds the events of a press: its keys go down, and up one step later. If an earlier event
+/// releases a key at the step of the press, that event is removed instead, and the key stays down.
 fn push_press(events: &mut Vec<KeyEvent>, press: Origin) -> Result<(), AllocError> {
     let step = press.step;
     for key in 0..KEYS {
@@ -60,7 +59,7 @@ fn push_press(events: &mut Vec<KeyEvent>, press: Origin) -> Result<(), AllocErro
     Ok(())
 }
 
-/// Returns the key events on the way to a state that was reached in this way.
+/// Returns the key events on the way to a state of this origin.
 pub(crate) fn script_to(
     alloc: Global,
     finder: &Finder,

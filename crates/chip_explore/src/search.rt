@@ -20,7 +20,7 @@ use crate::ways::{Reading, Ways};
 use chip_machine::Forgotten;
 use std::alloc::AllocError;
 
-/// A search under way.
+/// A search in progress.
 #[derive(Drop)]
 pub(crate) struct Search {
     pub(crate) members: Members,
@@ -104,9 +104,9 @@ impl Search {
         self.finder.note(sums.state, Turn { step, place }, origin)
     }
 
-    /// Lets the runner make steps, of which the first is step `from`, and keeps the state in which they
-    /// end. If they reach the end of the search, or if memory runs out, the search is restricted to the
-    /// steps below that point.
+    /// Lets the runner make steps, starting with step `from`, and keeps the state in which they
+    /// end. If the steps reach the end of the search, or if memory runs out, the search is
+    /// restricted to the steps below that point.
     pub(crate) fn run_on(
         &mut self,
         setting: &Setting<'_>,
@@ -150,8 +150,8 @@ impl Search {
         Ok(())
     }
 
-    /// Makes the next step of a state with these keys down, and goes on from there. Returns whether that
-    /// was possible; if not, the search is restricted to the steps below that one.
+    /// Makes the next step of a state with these keys down, and continues from there. Returns
+    /// whether that was possible; if not, the search is restricted to the steps below that step.
     fn follow(
         &mut self,
         setting: &Setting<'_>,
@@ -191,9 +191,9 @@ impl Search {
         Ok(true)
     }
 
-    /// Goes on from the state after the next step of a state, which sets a register to the delay timer,
-    /// if the timer has this value. Returns whether that was possible; if not, the search is restricted
-    /// to the steps below that one.
+    /// Continues from the state after the next step of a state, which sets a register to the delay
+    /// timer, assuming that the timer has this value. Returns whether that was possible; if not,
+    /// the search is restricted to the steps below that step.
     fn follow_as(
         &mut self,
         setting: &Setting<'_>,
@@ -226,7 +226,7 @@ impl Search {
         Ok(true)
     }
 
-    /// Goes on in this way with each value up to the bound, unless too many states are kept. Returns
+    /// Calls `follow_as` with each value up to the bound, unless too many states are kept. Returns
     /// whether that was possible.
     fn follow_values(
         &mut self,
@@ -257,8 +257,8 @@ impl Search {
         Ok(true)
     }
 
-    /// Makes the next step of a state with each of these keys down alone, and goes on from there. Returns
-    /// whether that was possible.
+    /// Makes the next step of a state with each of these keys down alone, and continues from there.
+    /// Returns whether that was possible.
     fn follow_each(
         &mut self,
         setting: &Setting<'_>,
@@ -354,7 +354,7 @@ impl Search {
         Ok(())
     }
 
-    /// Makes it with each value of the delay timer, and notes that the state was taken up.
+    /// Makes the next step of a state with each value of the delay timer, and notes that the state was taken up.
     fn take_up_values(
         &mut self,
         setting: &Setting<'_>,
@@ -405,7 +405,7 @@ impl Search {
         }
     }
 
-    /// Takes up the state of a turn, unless that was done already.
+    /// Takes up the state of a turn, unless it was taken up already.
     fn take_turn(
         &mut self,
         setting: &Setting<'_>,
@@ -422,15 +422,15 @@ impl Search {
         self.take_up(setting, turn.place, most_states)
     }
 
-    /// About how many bytes the states take.
+    /// The approximate number of bytes that the states take.
     pub(crate) fn room(&self) -> u64 {
         (self.members.states.len() as u64)
             .saturating_mul(STATE_BYTES)
             .saturating_add(self.backdrops.room)
     }
 
-    /// About how many bytes the states take together with the ways between them, which a search for
-    /// goals follows backward.
+    /// The approximate number of bytes that the states take together with the ways between them,
+    /// which a search for goals follows backward.
     pub(crate) fn room_for_ways(&self) -> u64 {
         let states = (self.members.states.len() as u64).saturating_mul(RANK_BYTES);
         let ways = self.finder.ways.saturating_mul(WAY_BYTES);

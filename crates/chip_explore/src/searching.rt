@@ -1,4 +1,4 @@
-//! A search that starts from a machine and goes on until it ends.
+//! A search that starts from a machine and runs until it ends.
 
 ghost use Rattle.std.specs.Prelude.{◌≡◌, ◌<◌, ◌≤◌, ◌+◌, ◌-◌, [], length, IfOk};
 ghost use Rattle.chip_explore.specs.Answers.{most_ways};
@@ -62,7 +62,7 @@ fn base_for(alloc: Global, start: &Machine, setting: &Setting<'_>) -> Result<Bas
     Base::of(alloc, &runner.machine)
 }
 
-/// Makes one search. Fails if memory runs out at its start.
+/// Runs one search. Fails if memory runs out at its start.
 pub(crate) fn search_from<'a, W: Watcher>(
     alloc: Global,
     beginning: &Beginning<'_>,
@@ -96,7 +96,7 @@ pub(crate) fn search_from<'a, W: Watcher>(
     })
 }
 
-/// Keeps the first state, and takes up states from there on.
+/// Keeps the first state, and takes up states from that one on.
 fn search_all<W: Watcher>(
     search: &mut Search,
     from: u64,
@@ -115,7 +115,7 @@ fn search_all<W: Watcher>(
     search.run(setting, bounds.states, bounds.memory, watcher)
 }
 
-/// Searches states by the least step first, and begins anew when a step refutes a guess.
+/// Takes up states by the least step first, and restarts when a step refutes a guess.
 pub(crate) fn search_anew<'a, W: Watcher>(
     alloc: Global,
     beginning: &Beginning<'_>,

@@ -16,9 +16,9 @@ pub const STOPS: &[Stop] = &[
     Stop::NoFlag,
 ];
 
-/// The causes, other than the wanted ones, for which the machine stopped in a search, each with the least
-/// step at which the search met it. Nothing is claimed about this, because other key scripts may lead to
-/// other causes, or to these at earlier steps.
+/// The causes, other than the wanted ones, for which the machine stopped in a search, each with the
+/// least step at which the search met it. These facts are unverified, because other key scripts may
+/// lead to other causes, or to these causes at earlier steps.
 #[derive(Clone, Copy)]
 pub struct Seen {
     /// The step for Sk is at index k.
@@ -47,8 +47,8 @@ impl Seen {
         self.first_steps.iter().any(|step| step.is_some())
     }
 
-    /// Whether this search has met each cause that another search met. From now on it meets no cause at a
-    /// step below `step`.
+    /// Whether this search has met each cause that another search met, if from now on it meets no
+    /// cause at a step below `step`.
     pub(crate) fn has_all(&self, awaited: &Seen, step: u64) -> bool {
         for cause in 0..8 {
             match (awaited.first_steps[cause], self.first_steps[cause]) {

@@ -23,8 +23,8 @@ pub(crate) struct Setting<'a> {
     pub(crate) target: Target<'a>,
     /// The properties that each machine that stops has to meet.
     pub(crate) goals: &'a [Property],
-    /// Whether the timers may tick after any step. If so, the delay timer of a state is a bound of the
-    /// delay timer in a run, and no step of the search ticks.
+    /// Whether the timers may tick after any step. If so, the delay timer of a state is an upper
+    /// bound of the delay timer in a run, and no step of the search ticks.
     pub(crate) free: bool,
     /// Whether a state whose delay timer is above 0 refutes free ticks.
     pub(crate) is_strict: bool,
@@ -150,7 +150,7 @@ impl<'a> Setting<'a> {
         self.goals.iter().all(|goal| goal.is_met(machine))
     }
 
-    /// Returns those of the forgotten parts that the properties and the goals use.
+    /// Returns the forgotten parts that the properties and the goals use.
     #[inline(never)]
     pub(crate) fn asked_of(&self, machine: &Machine, forgotten: Forgotten) -> Forgotten {
         let mut asked = Forgotten::nothing();

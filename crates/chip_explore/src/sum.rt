@@ -1,4 +1,4 @@
-//! Sums of a machine's state, which are used to look up states like it. Nothing is claimed about them.
+//! Sums (hashes) of a machine's state, which are used to look up states like it. They are unverified.
 
 ghost use Rattle.std.specs.Prelude.{◌≡◌, ◌+◌, ◌≤◌, length};
 
@@ -39,7 +39,7 @@ pub(crate) fn word_at(bytes: &[u8], at: usize) -> u64
     ])
 }
 
-/// Returns the sum of the bytes of a memory. Its quarters are summed side by side.
+/// Returns the sum of the bytes of a memory. Its four quarters are summed separately.
 fn memory_sum(memory: &[u8]) -> u64
     requires { length memory.now ≡ MEMORY_BYTES }
 {
@@ -69,7 +69,7 @@ fn screen_sum(machine: &Machine) -> u64 {
     add(left, right)
 }
 
-/// Returns the sum of the other parts that change seldom: the memory, the frames and the flag registers.
+/// Returns the sum of the memory, the screen's size, the flag registers and the frames.
 fn stored_sum(machine: &Machine) -> u64 {
     let mut sum = add(memory_sum(machine.memory()), u64::from(machine.high()));
     sum = add_bytes(sum, machine.flags());
@@ -90,8 +90,8 @@ pub(crate) struct Sums {
 }
 
 impl Sums {
-    /// Returns the sums of a machine of which some parts and bytes are forgotten. The forgotten bytes
-    /// must already be overwritten by those of a base.
+    /// Returns the sums of a machine with some forgotten parts and bytes. The forgotten bytes must
+    /// already be overwritten with those of a base.
     pub(crate) fn of(machine: &Machine, forgotten: Forgotten, phase: u64) -> Sums {
         let stored = stored_sum(machine);
         let screen = screen_sum(machine);

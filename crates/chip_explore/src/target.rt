@@ -8,8 +8,8 @@ use crate::causes::Causes;
 use crate::property::Property;
 use chip_machine::{Machine, Stop};
 
-/// The states that a search looks for: a stop for one of some causes or, before a step is made, pc at an
-/// address or a property that is met.
+/// The states that a search looks for: a stop for one of the causes or, on a machine that hasn't
+/// stopped, pc at the address or a property that is met.
 #[derive(Clone, Copy)]
 pub struct Target<'a> {
     pub causes: Causes,
@@ -24,8 +24,8 @@ pub enum Met {
     Cause(Stop),
     /// The machine has not stopped, and pc is at the address.
     Address,
-    /// The machine has not stopped, and meets the property at this place of the list. No property before
-    /// it is met.
+    /// The machine has not stopped, and meets the property at this place of the list. No property
+    /// before that one is met.
     Property(usize),
 }
 

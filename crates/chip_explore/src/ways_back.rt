@@ -1,5 +1,5 @@
-//! Ways back from the goals, over the steps that can tell keys apart. Nothing is claimed about them,
-//! because the ranks that they give are checked.
+//! Ways back from the goals, over the steps that can tell keys apart. They are unverified, because
+//! the ranks computed from them are checked.
 
 ghost use Rattle.std.specs.Prelude.{◌≡◌};
 ghost use Rattle.chip_explore.specs.inner.Cover.{HasPlace, Holds};
@@ -46,7 +46,7 @@ pub(crate) struct Loss {
 }
 
 impl WaysBack {
-    /// Returns no ways between this many states.
+    /// Returns an empty collection of ways between this many states.
     fn none(alloc: Global, states: usize) -> Result<WaysBack, AllocError> {
         let mut ranks = Vec::with_capacity(alloc, states)?;
         ranks.resize(states, 0)?;
@@ -86,7 +86,7 @@ impl WaysBack {
         self.ranks.get(place).copied().unwrap_or(0)
     }
 
-    /// Gives a state a rank and keys, if it has none.
+    /// Gives a state a rank and keys, if it has no rank yet.
     fn rise(&mut self, place: usize, rank: u32, keys: u16) -> Result<(), AllocError> {
         if place < self.ranks.len()
             && place < self.keys.len()
@@ -100,7 +100,7 @@ impl WaysBack {
         Ok(())
     }
 
-    /// Notes a way from one state to another.
+    /// Adds a way from one state to another.
     fn note(&mut self, from: usize, to: usize, keys: u16) -> Result<(), AllocError> {
         if to < self.ways_to.len()
             && let Ok(from) = u32::try_from(from)
@@ -113,7 +113,7 @@ impl WaysBack {
         Ok(())
     }
 
-    /// Notes each way from a state.
+    /// Adds each way from a state.
     fn note_from(
         &mut self,
         search: &mut Search,
@@ -136,7 +136,7 @@ impl WaysBack {
         Ok(())
     }
 
-    /// Notes the way from a state with these keys down.
+    /// Adds the way from a state with these keys down.
     fn note_way(
         &mut self,
         search: &mut Search,
@@ -162,7 +162,7 @@ impl WaysBack {
         }
     }
 
-    /// Gives ranks to the states from which others with ranks are reached.
+    /// Gives ranks to the states that lead to states with ranks.
     fn go_back(&mut self, states: usize) -> Result<(), AllocError> {
         for done in 0..states {
             if done >= self.ranked.len() {
@@ -208,7 +208,7 @@ impl WaysBack {
         Ok(first)
     }
 
-    /// Notes the least such step after a state, if it is less than the least one so far.
+    /// Records the least such step after a state, if it is less than the least step recorded so far.
     fn note_loss(
         &self,
         search: &mut Search,

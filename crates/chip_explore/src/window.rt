@@ -1,5 +1,5 @@
-//! The bytes of the memory that are forgotten: those bytes of a window that were stored and, as far as
-//! was seen, not needed later. Nothing is claimed about them.
+//! The bytes of the memory that are forgotten: the bytes of a window that were stored and, as far
+//! as the search saw, not needed later. This choice is unverified.
 
 use crate::backdrop::BytePatch;
 use crate::limits::{MOST_STATES_FOR_BYTES, STATES_FOR_A_SEARCH, STEPS_TRIED};
@@ -22,7 +22,7 @@ fn bytes_stored(machine: &Machine) -> u16 {
     }
 }
 
-/// What was seen of a byte of the memory.
+/// The observed uses of a byte of the memory.
 #[derive(Clone, Copy, PartialEq, Eq)]
 enum Seen {
     /// The byte was not stored.
@@ -33,16 +33,16 @@ enum Seen {
     Needed,
 }
 
-/// A window of the memory, and what was seen of each byte.
+/// A window of the memory, and the observed uses of each byte.
 #[derive(Drop)]
 pub(crate) struct Window {
     seen: Vec<Seen>,
     /// The bytes that are forgotten.
     bytes: Forgotten,
-    /// The number of states kept by searches that began anew because of the bytes, plus the cost of
-    /// beginning them, in states.
+    /// The number of states kept by searches that restarted because of the bytes, plus the cost of
+    /// the restarts, in states.
     spent: usize,
-    /// Whether no byte is forgotten any more.
+    /// Whether bytes are no longer forgotten.
     is_closed: bool,
 }
 
@@ -64,7 +64,7 @@ impl Window {
         Ok(window)
     }
 
-    /// Notes which bytes a machine stores in such a run.
+    /// Notes which bytes a machine stores in a trial run.
     fn try_run(&mut self, machine: &mut Machine, keys: u16) {
         let mut touch = Touch::new();
         for step in 0..STEPS_TRIED {
@@ -100,8 +100,8 @@ impl Window {
         self.bytes
     }
 
-    /// Notes that bytes change while `states` states are kept. Returns whether the search should begin
-    /// anew with other bytes.
+    /// Notes that bytes change while `states` states are kept. Returns whether the search should
+    /// restart with other bytes.
     pub(crate) fn note(&mut self, bytes: &[BytePatch], states: usize) -> bool {
         let mut is_new = false;
         for patch in bytes {
@@ -111,12 +111,12 @@ impl Window {
     }
 
     /// Notes which bytes the next step of a machine stores while `states` states are kept. Returns
-    /// whether the search should begin anew with other bytes.
+    /// whether the search should restart with other bytes.
     pub(crate) fn note_stores(&mut self, machine: &Machine, states: usize) -> bool {
         self.note_next(machine) && self.is_to_change(states)
     }
 
-    /// Whether a search that keeps `states` states should begin anew with other bytes.
+    /// Whether a search that keeps `states` states should restart with other bytes.
     fn is_to_change(&mut self, states: usize) -> bool {
         !self.is_closed && self.best() != self.bytes && self.affords(states)
     }
@@ -140,8 +140,8 @@ impl Window {
         is_new
     }
 
-    /// Whether a search that keeps `states` states may begin anew because of the bytes. If so, notes the
-    /// cost.
+    /// Whether a search that keeps `states` states may restart because of the bytes. If so, notes
+    /// the cost.
     fn affords(&mut self, states: usize) -> bool {
         let spent = self
             .spent
@@ -154,7 +154,7 @@ impl Window {
         true
     }
 
-    /// Chooses the bytes that are best, by what was seen, and forgets them from now on.
+    /// Chooses the best bytes according to the observed uses, and forgets them from now on.
     pub(crate) fn choose(&mut self) {
         self.bytes = if self.is_closed {
             Forgotten::nothing()
@@ -163,8 +163,8 @@ impl Window {
         };
     }
 
-    /// Returns the bytes of the window in which the most bytes were stored and not needed; of several
-    /// such windows, the first.
+    /// Returns the bytes of the window in which the most bytes were stored and not needed; if there
+    /// are several such windows, of the first.
     fn best(&self) -> Forgotten {
         let mut best = 0;
         let mut most: u16 = 0;

@@ -19,7 +19,7 @@ use Rattle.chip_facts.specs.declared.known.Known.{Known}
 use Rattle.chip_facts.specs.declared.outcome.Outcome.{Outcome}
 use Rattle.chip_facts.specs.declared.outcome.Stored.{Stored}
 
--- one result if a test holds, and another one if it fails
+-- one result if a test is true, and another result if it is false
 pub meets_if : (frames : List ℕ) (out : Outcome) (s : State) (test : Bool) (x y : Result State Stop)
     → (test ≡ true → Meets frames out s x) → (test ≡ false → Meets frames out s y) → Meets frames out s (if test then x else y)
 meets_if frames out s true x y h k = h refl
@@ -39,7 +39,7 @@ pub meets_store : (frames : List ℕ) (out : Outcome) (s : State) (keys : ℕ) (
 meets_store frames out s keys bytes core short fits =
     meets_if frames out s (is_past s.core.index (length bytes)) _ _ (λ h. short (ltb-true _ _ h)) (λ h. fits (ltb-false _ _ h))
 
--- ---- registers that got bytes
+-- ---- registers that bytes are loaded into
 
 module _ (memory new : List ℕ) (k : Known) (s : State) (x i : ℕ) (bytes : List ℕ)
     (x-small : x < 16) (known : IsKnown k s.core)
@@ -94,13 +94,13 @@ module _ (memory new : List ℕ) (k : Known) (s : State) (x i : ℕ) (bytes : Li
     size = known.size;
   }
 
--- I is a number of 16 bits after registers were moved
+-- I is a number of 16 bits after registers are moved
 pub index_past_small : (move : IndexMove) (x i : ℕ) → i < 65536 → index_past move x i < 65536
 index_past_small moves.Stays x i small = small
 index_past_small moves.AtLast x i small = omega arith
 index_past_small moves.PastLast x i small = omega arith
 
--- ---- bytes that were stored
+-- ---- bytes that are stored
 
 module _ (s : State) (new : Core) (bytes : List ℕ) (stored : Stored) (size : length s.memory ≡ 4096) (fits : s.core.index + length bytes ≤ 4096)
     (among : Holds stored.at s.core.index) (count : length bytes ≡ length stored.values.items) (flags : new.flags ≡ s.core.flags)
@@ -165,7 +165,7 @@ module _ (s : State) (new : Core) (bytes : List ℕ) (stored : Stored) (size : l
     subst (λ st. AreStored st s state-after) (sym is) are_stored,
   )
 
--- ---- flag registers that were stored
+-- ---- flag registers that are stored
 
 module _ (s : State) (x : ℕ) (stored : Stored) (size : length s.memory ≡ 4096) (eight : length s.core.flags ≡ 8) (sixteen : length s.core.registers ≡ 16) (x-small : x < 8)
     (among : Holds stored.at 4096) (count : x + 1 ≡ length stored.values.items)

@@ -1,4 +1,4 @@
--- Sets of numbers as sequences of bits, and the effect of one more number and of a part of the sequence.
+-- Sets of numbers as sequences of bits, and how adding a number or changing a word affects them.
 use Rattle.std.proofs.Common.{◌≡◌, ℕ, ◌+◌, ◌-◌, ◌*◌, ◌/◌, ◌%◌, ◌^◌, ◌<◌, ◌≤◌, ◌==◌, max, bit_or, true, false, Bool, List, length, get_or, set, sym, ap, ◌∙◌, inl, inr, arith, subst, eq-eqb, get_or-set_same, get_or-set_other, w64}
 use Rattle.std.specs.Int.{bit_at, trailing_zeros}
 use Rattle.std.proofs.lemmas.Bool.{cases_eq, cases_lt, eqb-true, false≢true}
@@ -37,7 +37,7 @@ put_keeps words n inside m h =
           eq-eqb _ _ (ap (λ w. bit_at w (m % 64)) (get_or-set_other words (n / 64) (m / 64) _ 0 other) ∙ eqb-true _ _ h)
     ]
 
--- a word that contains another one's bits contains each of them
+-- a word that contains another word's bits contains each of them
 pub word_within : (some all : List ℕ) (n : ℕ) → bit_or (get_or some (n / 64) 0) (get_or all (n / 64) 0) ≡ get_or all (n / 64) 0 → Holds some n → Holds all n
 word_within some all n is h =
     let one : bit_at (get_or some (n / 64) 0) (n % 64) ≡ 1 = eqb-true _ _ h in
@@ -49,7 +49,7 @@ word_within some all n is h =
 pub not_there : (words : List ℕ) (i n : ℕ) (found : Bool) → found ≡ has words i → found ≡ false → i ≡ n → Holds words n → ⊥
 not_there words i n found is none same h = false≢true (sym none ∙ is ∙ subst (λ k. has words k ≡ true) (sym same) h)
 
--- a number in a set is less than the number of its bits
+-- a number in a set is less than the number of the set's bits
 pub holds_inside : (words : List ℕ) (n : ℕ) → Holds words n → n < 64 * length words
 holds_inside words n h =
     elim (cases_lt (n / 64) (length words)) [
@@ -59,15 +59,15 @@ holds_inside words n h =
           absurd (false≢true (sym (ap (λ b. b == 1) zero) ∙ h))
     ]
 
--- a number whose bit is 0, as a test
+-- a number whose bit is 0 isn't in the set, as a test
 pub no_bit : (words : List ℕ) (n : ℕ) → bit_at (get_or words (n / 64) 0) (n % 64) ≡ 0 → has words n ≡ false
 no_bit words n zero = ap (λ b. b == 1) zero
 
--- no number of a set is less than its first number
+-- no number in a set is less than the set's first number
 pub below_first : (words : List ℕ) (P : ℕ → Type 0) (first : ℕ) → ((n : ℕ) → 0 ≤ n → n < first → has words n ≡ false) → (n : ℕ) → n < first → Holds words n → P n
 below_first words P first none n small h = absurd (false≢true (sym (none n (omega arith) small) ∙ h))
 
--- if something holds for the numbers of a set below one of them, and for that one, it holds for those below the next one
+-- if P is true of the numbers of a set up to one of them, it is true of those below the next one
 pub below_next : (words : List ℕ) (P : ℕ → Type 0) (here then : ℕ) → ((n : ℕ) → here + 1 ≤ n → n < then → has words n ≡ false)
     → ((n : ℕ) → n < here → Holds words n → P n) → P here → (n : ℕ) → n < then → Holds words n → P n
 below_next words P here then none before is n small h =
@@ -79,11 +79,11 @@ below_next words P here then none before is n small h =
       ]
     ]
 
--- the bits of a word that is moved down
+-- the bits of a word that is shifted right
 pub bit_shr : (word k i : ℕ) → bit_at (word / 2 ^ k) i ≡ bit_at word (k + i)
 bit_shr word k i = ap (λ n. n % 2) (shr-shr word k i)
 
--- the bits of a word that is moved up, except those that are lost
+-- the bits of a word that is shifted left, except those that are lost
 pub bit_shl : (word k i : ℕ) → i + k < 64 → bit_at (word * 2 ^ k % 2 ^ 64) (i + k) ≡ bit_at word i
 bit_shl word k i inside =
     let zero : word * 2 ^ k ≡ word * 2 ^ k + 0 = omega arith in
@@ -94,7 +94,7 @@ bit_shl word k i inside =
     ∙ bit_at_cat_high word k 0 (i + k) (pow_pos k) over
     ∙ ap (λ n. bit_at word n) less
 
--- the bits of a word from one on are the bits of the word moved down by that many
+-- the bits of a word starting at one bit are the bits of the word shifted right by that many
 bits_from : (word from i : ℕ) → from ≤ i → bit_at word i ≡ bit_at (word / 2 ^ from) (i - from)
 bits_from word from i past =
     let is : i ≡ from + (i - from) = omega arith in
@@ -103,7 +103,7 @@ bits_from word from i past =
 pub none_from : (word from : ℕ) → word / 2 ^ from ≡ 0 → (i : ℕ) → from ≤ i → bit_at word i ≡ 0
 none_from word from zero i past = bits_from word from i past ∙ ap (λ w. bit_at w (i - from)) zero ∙ bit_at-zero (i - from)
 
--- the place of its first set bit from one on
+-- the position of a word's first set bit, starting at one bit
 pub record IsFirst (word from : ℕ) (zeros : ℕ) : Type 0 where
   pub inside : from + zeros < 64
   pub none : (i : ℕ) → from ≤ i → i < from + zeros → bit_at word i ≡ 0
@@ -131,7 +131,7 @@ first_from word from small some =
           bits_from word from i after ∙ found.2 (i - from) under;
     }
 
--- a word that gets the bits of another one has its own bits and those
+-- a word that receives the bits of another word contains its own bits and the received bits
 pub or_keeps : (words : List ℕ) (i v n : ℕ) → i < length words → Holds words n → Holds (set words i (bit_or (get_or words i 0) v)) n
 or_keeps words i v n inside h =
     let one : bit_at (get_or words (n / 64) 0) (n % 64) ≡ 1 = eqb-true _ _ h in

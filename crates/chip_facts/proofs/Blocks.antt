@@ -1,10 +1,10 @@
--- Sequences of sets: the set at a place consists of four words, from four times the place on.
+-- Sequences of sets. The set at an index consists of four words, starting at four times the index.
 use Rattle.std.proofs.Common.{◌≡◌, ◌≢◌, ℕ, ◌+◌, ◌*◌, ◌/◌, ◌%◌, ◌<◌, ◌==◌, List, length, length-set, get_or, set, sym, ap, ◌∙◌, inl, inr, arith, get_or-set_same, get_or-set_other}
 use Rattle.std.specs.Int.{bit_at}
 use Rattle.std.proofs.lemmas.Bool.{cases_eq, cases_lt}
 use Rattle.chip_facts.specs.Sets.{has}
 
--- puts four words in their place
+-- stores four words as the set at an index
 abbrev pub put_block : List ℕ → ℕ → List ℕ → List ℕ
 put_block words x values =
     set (set (set (set words (4 * x) (get_or values 0 0)) (4 * x + 1) (get_or values 1 0)) (4 * x + 2) (get_or values 2 0)) (4 * x + 3) (get_or values 3 0)
@@ -66,7 +66,7 @@ word_there words x values j small room =
       ]
     ]
 
--- the set at that place is the one that was put there
+-- the set at that index is the one that was stored there
 pub block_there : (words : List ℕ) (x : ℕ) (values : List ℕ) (b : ℕ) → 4 * x + 3 < length words → b < 256 → has (put_block words x values) (256 * x + b) ≡ has values b
 block_there words x values b room small =
     let at : (256 * x + b) / 64 ≡ 4 * x + b / 64 = omega arith in

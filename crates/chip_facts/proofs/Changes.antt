@@ -1,4 +1,4 @@
--- Changes that go on to the next instruction, by the quirks and flags that they depend on.
+-- Changes that move pc to the next instruction, by the quirks and flags that they depend on.
 use Rattle.std.proofs.Common.{◌≡◌, ℕ, ◌+◌, ◌%◌, ◌<◌, Bool, true, false, not, refl, sym, arith, subst, zero, suc, Option, Some, IfSome, if◌then◌else◌, nat_lt, find, cond, List, ap}
 use Rattle.std.specs.FinSet as set
 use Rattle.std.specs.List.{range_with_len}
@@ -36,7 +36,7 @@ pub on_plain : (k : Known) (c : Core) (x v : ℕ) (clears : Bool) → IsKnown k 
 on_plain k c x v true known = on_next _ _ _ refl known
 on_plain k c x v false known = on_next _ _ _ refl known
 
--- I moves on, and VF tells whether it is large, or stays
+-- I is increased; VF is set to whether the sum is above 0FFF, or stays
 moved : Core → ℕ → Bool → Core
 moved c n flags = if flags then with_reg 15 (bit_of (nat_lt 4095 (c.index + n))) (with_index ((c.index + n) % 65536) c) else with_index ((c.index + n) % 65536) c
 

@@ -21,7 +21,7 @@ use Rattle.chip_facts.specs.declared.table.Row.{Row}
 use Rattle.chip_facts.specs.declared.table.Table.{Table}
 use Rattle.chip_facts.specs.declared.transfer.Before.{Before}
 
--- a number is a byte, and one of those that the table has for its address
+-- a number is a byte, and the table allows it at its address
 abbrev IsByte : List ℕ → ℕ → ℕ → Type 0
 IsByte memory at byte = (byte < 256) × (at < 4104 → Holds memory (256 * at + byte))
 
@@ -66,7 +66,7 @@ outcome_allowed table before out stop stored next same s at (Ok new) meets = (
   around_then table.memory.items before.quirks s new out.stored (subst (λ m. IsAround m before.quirks s) same at.around) stored meets.1 meets.2,
 )
 
--- ---- all states that are reached
+-- ---- all reached states
 
 pub record Starts (table : Table) (image : List ℕ) (quirks : Quirks) : Type 0 where
   pub memory : (at : ℕ) → at < 4096 → Holds table.memory.items (256 * at + get_or (start_memory image) at 0)
@@ -156,7 +156,7 @@ module _ (table : Table) (image : List ℕ) (quirks : Quirks) (begins : Starts t
   all_held _ (starts tape bytes) = held_start tape bytes
   all_held _ (steps s reached keys tick) = held_step s keys tick (all_held s reached)
 
--- the facts about a state that is held
+-- the facts about a state for which `IsHeld` is true
 pub one_of : (table : Table) (quirks : Quirks) (executed : List Bool) → ((pc : ℕ) → Any (λ row. pc ≡ row.pc) table.rows.items → is_among executed pc ≡ true)
     → (s : State) → IsHeld table quirks s → IsOneOf table.left.items executed s
 one_of table quirks executed among s (lies (k, row, within, is, in-row) around) = record {

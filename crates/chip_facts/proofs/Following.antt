@@ -1,4 +1,4 @@
--- What follows a step, given what is known before it.
+-- The successors of a step, given what is known before it.
 use Rattle.std.proofs.Common.{◌≡◌, ℕ, ◌+◌, ◌/◌, ◌%◌, ◌==◌, ◌<◌, ◌⊎◌, inl, inr, nat_lt, nat_le, Bool, true, false, not, if◌then◌else◌, ◌++◌, Any, MatchOption, Option, Some, None, option_to_list, refl, sym, ap, ◌∙◌, arith, subst}
 use Rattle.std.proofs.lemmas.Bool.{cases_eq}
 use Rattle.chip_machine.specs.State.{Core, State}
@@ -66,7 +66,7 @@ either_way before c operation a b one two small first second =
       | inr is ↦ any_second _ one two (second is)
     ]
 
--- a skip if two bytes are the same or if they aren't, given the result of comparing them
+-- a skip if two bytes are equal or if they differ, given the result of comparing them
 pub where_other : (test if_same : Bool) → bit_of test ≡ 0 → (if if_same then test else not test) ≡ not if_same
 where_other true same h = absurd (let no : 1 ≡ 0 = h in omega arith)
 where_other false true h = refl

@@ -1,4 +1,4 @@
--- Why each state that is reached and hasn't stopped lies in a row of the facts.
+-- Why each reached state that hasn't stopped lies in a row of the facts.
 use Rattle.std.proofs.Common.{◌≡◌, Any, Option, Some, None, sym, arith, subst}
 use Rattle.std.proofs.lemmas.List.{get_or_append_left}
 use Rattle.chip_machine.specs.declared.quirks.Quirks.{Quirks}

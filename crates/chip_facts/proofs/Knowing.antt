@@ -61,7 +61,7 @@ module _ (k : Known) (c : Core) (x : ℕ) (values : List ℕ) (b : ℕ) (known :
 pub same_register : (k : Known) (c : Core) (x : ℕ) → IsKnown k (with_reg x (reg c x) c) → IsKnown k c
 same_register k c x known = subst (λ rs. IsKnown k (record c { registers = rs })) (set-get_or c.registers x 0) known
 
--- the results computed from the bytes that two registers may have include the result of the bytes that they have
+-- the results computed from the possible bytes of two registers include the result of their actual bytes
 pub made_of_two : (k : Known) (c : Core) (x y : ℕ) (m : Pairs) (operation : Operation) (flag : ℕ) (firsts seconds : List ℕ) (same : Bool)
     → ((a b : ℕ) → a < 256 → b < 256 → Holds firsts a → Holds seconds b → (same ≡ true → a ≡ b) → flag_of operation a b ≡ flag → IsMade m (value_of operation a b) b)
     → IsKnown k c → x < 16 → y < 16

@@ -1,4 +1,4 @@
--- What an outcome says, given where it leads.
+-- What an outcome allows, given its successors.
 use Rattle.std.proofs.Common.{◌≡◌, ℕ, ◌+◌, Bool, true, false, if◌then◌else◌, List, [], ◌∷◌, ◌++◌, length, Any, None, Result, Ok, Err, IfOk, refl, sym, ap, ◌∙◌, arith, subst, length-append}
 use Rattle.std.proofs.lemmas.List.{get_or_append_left}
 use Rattle.chip_machine.specs.State.{Core, State}
@@ -12,7 +12,7 @@ use Rattle.chip_facts.specs.declared.outcome.Way.TheVariants as way
 use Rattle.chip_facts.specs.declared.transfer.Before.{Before}
 use Rattle.chip_facts.proofs.Following.{is_past}
 
--- a change of the core that keeps flag registers, tape, quirks and stop cause, and leads to one of these
+-- a change of the core that keeps flag registers, tape, quirks and stop cause, and leads to a successor
 pub meets_some : (frames : List ℕ) (out : Outcome) (s : State) (new : Core) → out.stored ≡ None → IsCalm s.core new
     → Any (IsNext frames new) out.next.items → Meets frames out s (Ok (record s { core = new }))
 meets_some frames out s new none calm any = (
@@ -45,7 +45,7 @@ pub meets_second : (frames : List ℕ) (out : Outcome) (s : State) (new : Core) 
 meets_second frames out s new one two is none calm next =
     meets_some frames out s new none calm (subst (Any (IsNext frames new)) (sym is) (1, two, omega arith, refl, next))
 
--- a change that goes on to the next instruction
+-- a change that moves pc to the next instruction
 pub meets_on : (before : Before) (out : Outcome) (n : Successor) (k : Known) → out.next.items ≡ n ∷ [] → out.stored ≡ None
     → n.pc ≡ before.pc + 2 → n.known ≡ k → n.way ≡ way.Same → (s : State) (new : Core) → IsAt before s → IsOn k s.core new
     → Meets before.frames.now out s (Ok (record s { core = new }))
@@ -56,7 +56,7 @@ meets_on before out n k is none pc known same s new at on =
 pub calm_same : (c : Core) → IsCalm c c
 calm_same c = record { same_flags = refl; tape_is = refl; quirks_are = refl; stop_is = refl }
 
--- a value of which two facts hold
+-- a value for which two facts are true
 pub ok_two : {T E : Type 0} (r : Result T E) (P Q R : T → Type 0) → IfOk r P → IfOk r Q → ((x : T) → P x → Q x → R x) → IfOk r R
 ok_two (Ok x) P Q R p q f = f x p q
 ok_two (Err e) P Q R p q f = tt
@@ -65,14 +65,14 @@ pub ok_three : {T E : Type 0} (r : Result T E) (P Q R S : T → Type 0) → IfOk
 ok_three (Ok x) P Q R S p q r f = f x p q r
 ok_three (Err e) P Q R S p q r f = tt
 
--- one effect if a test holds, and another one if it fails
+-- one effect if a test is true, and another effect if it is false
 pub meets_either : (frames : List ℕ) (out : Outcome) (s : State) (keys : ℕ) (test : Bool) (x y : Effect)
     → (test ≡ true → Meets frames out s (perform keys s x)) → (test ≡ false → Meets frames out s (perform keys s y))
     → Meets frames out s (perform keys s (if test then x else y))
 meets_either frames out s keys true x y h k = h refl
 meets_either frames out s keys false x y h k = k refl
 
--- a property of one of some successors is also one of one of more successors
+-- a property that one of some successors has is also a property that one of more successors has
 pub any_more : (P : Successor → Type 0) (items : List Successor) (n : Successor) → Any P items → Any P (items ++ n ∷ [])
 any_more P items n (k, m, within, is, h) =
     (k, m, omega (arith, within, length-append items (n ∷ [])), get_or_append_left items (n ∷ []) m k within ∙ is, h)

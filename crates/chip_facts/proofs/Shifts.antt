@@ -1,4 +1,4 @@
--- Sets of bytes that are moved up or down, and the new places of the bits of their words.
+-- Sets of bytes shifted up or down, and the new positions of the bits of their words.
 use Rattle.std.proofs.Common.{◌≡◌, ℕ, ◌+◌, ◌-◌, ◌*◌, ◌/◌, ◌%◌, ◌^◌, ◌<◌, ◌≤◌, ◌∷◌, [], List, bit_or, get_or, nat_le, nat_lt, ap, ◌∙◌, inl, inr, arith, eq-eqb}
 use Rattle.std.specs.Int.{bit_at}
 use Rattle.std.proofs.lemmas.Bool.Decides.{nat_tests}
@@ -14,7 +14,7 @@ or_left x y i one = omega (arith, bit_at_or x y i, bit_at-lt y i, one)
 pub or_right : (x y i : ℕ) → bit_at y i ≡ 1 → bit_at (bit_or x y) i ≡ 1
 or_right x y i one = omega (arith, bit_at_or x y i, bit_at-lt x i, one)
 
--- a sum is in the word that is moved up within itself, or in the word above it
+-- a sum is in the word that is shifted up within itself, or in the word above it
 pub raised_within : (set : List ℕ) (a by : ℕ) → Holds set a → a % 64 + by % 64 < 64 → bit_at (get_or set (a / 64) 0 * 2 ^ (by % 64) % 2 ^ 64) ((a + by) % 64) ≡ 1
 raised_within set a by h inside =
     let is : (a + by) % 64 ≡ a % 64 + by % 64 = omega (arith, inside) in
@@ -25,7 +25,7 @@ raised_over set a by h over =
     let is : 64 - by % 64 + (a + by) % 64 ≡ a % 64 = omega (arith, over) in
     bit_shr (get_or set (a / 64) 0) (64 - by % 64) ((a + by) % 64) ∙ ap (λ n. bit_at (get_or set (a / 64) 0) n) is ∙ eqb-true _ _ h
 
--- a difference is in the word that is moved down within itself, or in the word below it
+-- a difference is in the word that is shifted down within itself, or in the word below it
 pub lowered_within : (set : List ℕ) (a by : ℕ) → Holds set a → by ≤ a → by % 64 ≤ a % 64 → bit_at (get_or set (a / 64) 0 / 2 ^ (by % 64)) ((a - by) % 64) ≡ 1
 lowered_within set a by h least inside =
     let is : by % 64 + (a - by) % 64 ≡ a % 64 = omega (arith, least, inside) in

@@ -1,9 +1,9 @@
--- Statements about all states that a machine with an image can come to.
+-- Statements about all states that a machine with an image can reach.
 -- Source: chosen by this project.
---     is_among        whether an address is in a table; an address past the table always is
---     AreFacts        in each reached state, a stop is one of those that aren't excluded, and the address is
---                     one at which a step may be made
---     NeverAtAll      no keys, tape and ticks lead to a stop for this cause
+--     is_among        whether an address is in a table; an address past the end of the table always is
+--     AreFacts        in each reached state, the stop, if there is one, isn't excluded, and a step may be
+--                     executed at the address
+--     NeverAtAll      no combination of keys, tape and ticks leads to a stop for this cause
 use Rattle.std.specs.Prelude.{◌≡◌, ◌≢◌, ℕ, Bool, true, List, Contains, IfSome, Some, slice_index_or}
 use Rattle.chip_machine.specs.declared.quirks.Quirks.{Quirks}
 use Rattle.chip_machine.specs.declared.stop.Stop.{Stop}

@@ -1,8 +1,8 @@
--- Sets of numbers, one bit each, in a sequence of words of 64 bits.
+-- Sets of numbers, with one bit per number, in a sequence of words of 64 bits.
 -- Source: chosen by this project.
 --     has             whether a number is in a set
 --     Holds           a number is in a set
---     IsWithin        each number of a set is in another
+--     IsWithin        each number in a set is also in another set
 use Rattle.std.specs.Prelude.{◌≡◌, ℕ, ◌/◌, ◌%◌, ◌==◌, Bool, true, List, slice_index}
 use Rattle.std.specs.Int.{bit_at}
 

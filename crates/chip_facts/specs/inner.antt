@@ -1,4 +1,4 @@
--- The meaning of a table, and how a step goes from row to row.
+-- The meaning of a table, and how steps lead from row to row.
 pub mod Indexes
 pub mod Operations
 pub mod Knowing

@@ -1,4 +1,4 @@
-//! The rows of the table of instructions that load or store bytes, and those of the flag registers.
+//! The rows of the instruction table that load or store bytes, including those of the flag registers.
 
 ghost use Rattle.std.specs.Prelude.{◌≡◌, ◌<◌, ◌≤◌, ◌+◌, ◌*◌, [], ℕ, Bool, Any, length, slice_index_or, IfOk, IsTrue, Some, if◌then◌else◌, nat_le};
 ghost use Rattle.chip_machine.specs.State.{Core, State};
@@ -24,7 +24,7 @@ use std::alloc::{AllocError, Global};
 
 #[tactic(auto, unfolding(chip_machine::specs::Step::effect))]
 impl Before<'_> {
-    /// Returns the values of I after V0 to Vx were moved from one of these addresses on.
+    /// Returns the values of I after V0 to Vx are moved to or from memory at one of these addresses.
     fn index_after(&self, index: &IndexSet, x: Reg) -> IndexSet
         ensures { (i : ℕ) → i < 65536 → HoldsIndex index.now i
             → HoldsIndex result (index_past self.now.quirks.index_move x i) }
@@ -36,8 +36,8 @@ impl Before<'_> {
         }
     }
 
-    /// Returns the bytes that registers may have after V0 to Vx got the bytes from one of some addresses
-    /// on, one after another.
+    /// Returns the bytes that registers may have after V0 to Vx are loaded from consecutive bytes that start
+    /// at one of the given addresses.
     fn loaded_sets(&self, at: &IndexSet, x: Reg) -> [u64; 64]
         requires { length self.now.memory.now ≡ SETS_WORDS }
         ensures loaded { (y i b : ℕ) → y ≤ x → i ≤ 4096 → i + y < 4104 → b < 256 → Holds at.now i
@@ -65,8 +65,8 @@ impl Before<'_> {
         Ok(sets)
     }
 
-    /// Returns the outcome that accesses bytes from one of some addresses on, if there is one, and goes
-    /// on to the next instruction, where this is known.
+    /// Returns the outcome that accesses bytes starting at one of the given addresses, if there is one. Then pc
+    /// moves to the next instruction, with what is known there.
     fn accesses(
         &self,
         alloc: Global,
@@ -173,7 +173,7 @@ impl Before<'_> {
         self.on(alloc, known)
     }
 
-    /// Returns the least and the greatest number of bytes of a sprite of n rows, for the sizes that the
+    /// Returns the minimum and the maximum number of bytes of a sprite of n rows, for the sizes that the
     /// screen may have. If nothing is drawn, a sprite has no bytes.
     fn sprite_counts(&self, n: Nibble) -> (usize, usize)
         ensures least { (c : Core) → IsKnown self.now.known c → c.quirks ≡ self.now.quirks

@@ -1,4 +1,4 @@
-//! Sets of numbers, one bit each, in a sequence of words.
+//! Sets of numbers, with one bit per number, in a sequence of words.
 
 ghost use Rattle.std.specs.Prelude.{◌≡◌, ◌≤◌, ◌<◌, ◌*◌, ℕ, false, true, IsTrue, length};
 ghost use Rattle.std.specs.Int.{bit_at};
@@ -13,7 +13,7 @@ pub(crate) fn contains(words: &[u64], n: usize) -> bool
     words[n / 64] >> (n % 64) & 1 == 1
 }
 
-/// Puts number n into a set.
+/// Adds number n to a set.
 #[inline]
 pub(crate) fn insert(words: &mut [u64], n: usize)
     requires { n < 64 * length words.old }
@@ -31,7 +31,7 @@ pub(crate) fn remove(words: &mut [u64], n: usize)
     words[n / 64] &= !(1 << (n % 64));
 }
 
-/// Returns the first set bit of a word at `from` or later, or 64 if there is none.
+/// Returns the first set bit of a word at `from` or later, or 64 if there is no such bit.
 #[inline]
 fn first_bit(word: u64, from: usize) -> usize
     requires { from < 64 }
@@ -46,7 +46,7 @@ fn first_bit(word: u64, from: usize) -> usize
     from + rest.trailing_zeros() as usize
 }
 
-/// Returns the first number of a set that is at least `from`. If there is none, returns a number that is
+/// Returns the lowest number in a set that is at least `from`. If there is none, returns a number that is
 /// too large for a set with this many words.
 #[inline]
 pub(crate) fn next(words: &[u64], from: usize) -> usize
@@ -70,7 +70,7 @@ pub(crate) fn next(words: &[u64], from: usize) -> usize
     64 * words.len()
 }
 
-/// Whether each number of a set is in another.
+/// Whether each number in a set is also in another set.
 #[inline]
 pub(crate) fn is_within(words: &[u64], others: &[u64]) -> bool
     requires { length words.now ≡ length others.now }

@@ -12,7 +12,7 @@ pub(crate) type ByteSet = [u64; 4];
 /// The empty set.
 pub(crate) const NONE: ByteSet = [0; 4];
 
-/// Returns the set of one byte.
+/// Returns the set that contains only one byte.
 pub(crate) fn single(byte: u8) -> ByteSet
     ensures { Holds result byte }
 {
@@ -43,7 +43,7 @@ pub(crate) fn masked(mask: u8) -> ByteSet
     set
 }
 
-/// Returns a byte that is at least each byte of a set.
+/// Returns an upper bound of the bytes in a set.
 pub(crate) fn bound(set: &ByteSet) -> u8
     ensures { (b : ℕ) → b < 256 → Holds set.now b → b ≤ result }
 {
@@ -56,7 +56,7 @@ pub(crate) fn bound(set: &ByteSet) -> u8
     most
 }
 
-/// Returns the set at a place of a sequence of sets.
+/// Returns the set at an index in a sequence of sets.
 pub(crate) fn block(words: &[u64], place: usize) -> ByteSet
     requires { 4 * place + 3 < length words.now }
     ensures { (b : ℕ) → b < 256 → has result b ≡ has words.now (256 * place + b) }
@@ -65,7 +65,7 @@ pub(crate) fn block(words: &[u64], place: usize) -> ByteSet
     [words[at], words[at + 1], words[at + 2], words[at + 3]]
 }
 
-/// Adds the bytes of another set to a set.
+/// Adds the bytes in another set to a set.
 pub(crate) fn unite(set: &mut ByteSet, other: &ByteSet)
     ensures others { (b : ℕ) → Holds set.old b → Holds set.new b }
     ensures there { (b : ℕ) → b < 256 → Holds other.now b → Holds set.new b }
@@ -75,7 +75,7 @@ pub(crate) fn unite(set: &mut ByteSet, other: &ByteSet)
     }
 }
 
-/// Returns word `i` of the sums of each byte of a set and a number.
+/// Returns word `i` of the sums of a number and each byte in a set.
 fn raised_word(set: &ByteSet, by: usize, i: usize) -> u64
     requires { i < 4 }
     ensures { (a : ℕ) → (a + by) / 64 ≡ i → Holds set.now a → bit_at result ((a + by) % 64) ≡ 1 }
@@ -92,7 +92,7 @@ fn raised_word(set: &ByteSet, by: usize, i: usize) -> u64
     word | set[i - words - 1] >> (64 - bits)
 }
 
-/// Returns the sums of each byte of a set and a number, except those above 255.
+/// Returns the sums of a number and each byte in a set, except those above 255.
 pub(crate) fn raised(set: &ByteSet, by: usize) -> ByteSet
     ensures { (a : ℕ) → a + by < 256 → Holds set.now a → Holds result (a + by) }
 {
@@ -104,7 +104,7 @@ pub(crate) fn raised(set: &ByteSet, by: usize) -> ByteSet
     ]
 }
 
-/// Returns word `i` of the differences of each byte of a set and a number.
+/// Returns word `i` of the differences of each byte in a set and a number.
 fn lowered_word(set: &ByteSet, by: usize, i: usize) -> u64
     requires small { i < 4 }
     requires by { by ≤ 256 }
@@ -122,7 +122,7 @@ fn lowered_word(set: &ByteSet, by: usize, i: usize) -> u64
     word | set[from + 1] << (64 - bits)
 }
 
-/// Returns the differences of each byte of a set and a number, except those below 0.
+/// Returns the differences of each byte in a set and a number, except those below 0.
 pub(crate) fn lowered(set: &ByteSet, by: usize) -> ByteSet
     requires { by ≤ 256 }
     ensures { (a : ℕ) → by ≤ a → Holds set.now a → Holds result (a - by) }
@@ -135,7 +135,7 @@ pub(crate) fn lowered(set: &ByteSet, by: usize) -> ByteSet
     ]
 }
 
-/// Returns a decimal digit of each byte of a set: hundreds, tens or ones for `by` 100, 10 or 1.
+/// Returns a decimal digit of each byte in a set: hundreds, tens or ones if `by` is 100, 10 or 1.
 pub(crate) fn digit(values: &ByteSet, by: u8) -> ByteSet
     requires { 0 < by }
     ensures { (b : ℕ) → b < 256 → Holds values.now b → Holds result (b / by % 10) }

@@ -1,4 +1,4 @@
-//! Facts about all states that a machine with an image can come to.
+//! Facts about all states that a machine with an image can reach.
 
 ghost use Rattle.std.specs.Prelude.{◌≡◌, ◌≤◌, ℕ, Any, Bool, IfOk, IfSome, IsTrue, List, length, true};
 ghost use Rattle.chip_lang.specs.declared.limits.TheConstants.{IMAGE_BYTES};
@@ -11,22 +11,22 @@ use chip_lang::limits::{IMAGE_BYTES, MEMORY_BYTES};
 use chip_machine::{Quirks, Stop};
 use std::alloc::{AllocError, Global};
 
-/// Facts about all states that a machine with an image can come to, whichever keys are down, whichever
-/// bytes the tape has, and whenever the timers tick.
+/// Facts about all states that a machine with an image can reach, with any keys down, any bytes on the
+/// tape and any ticks of the timers.
 #[derive(Drop)]
 pub struct Facts {
-    /// The stops that aren't excluded, each with the address of the machine. Any of them may be impossible.
+    /// The stops that aren't excluded, each with the address at which it happens. Any of them may be impossible.
     pub left: Vec<Left>,
-    /// For each address of the memory, whether a step may be made there. No step is ever made at the others.
+    /// For each address, whether a step may be executed there. No step is ever executed at the other addresses.
     pub executed: Vec<bool>,
-    /// The rows of the table that all this follows from.
+    /// The rows of the table that all these facts follow from.
     pub(crate) rows: Vec<Row>,
     /// The bytes that each byte of the memory may have, followed by those that each flag register may have.
     pub(crate) memory: Vec<u64>,
 }
 
 impl Facts {
-    /// Whether the machine never stops for this cause.
+    /// Whether the facts exclude that the machine ever stops for this cause.
     pub fn excludes(&self, stop: Stop) -> bool
         ensures { IsTrue result → (image : List ℕ) (quirks : Quirks)
             → AreFacts image quirks self.now.left.items self.now.executed.items
@@ -41,7 +41,7 @@ impl Facts {
     }
 }
 
-/// Marks an address in a table of addresses.
+/// Marks an address as present in a table of addresses.
 fn mark(addresses: &mut Vec<bool>, at: usize)
     ensures there { is_among addresses.new.items at ≡ true }
     ensures others { (n : ℕ) → is_among addresses.old.items n ≡ true
@@ -52,7 +52,7 @@ fn mark(addresses: &mut Vec<bool>, at: usize)
     }
 }
 
-/// Returns, for each address, whether there is a row at it.
+/// Returns, for each address, whether a row is at that address.
 fn executed_in(alloc: Global, rows: &[Row]) -> Result<Vec<bool>, AllocError>
     ensures { IfOk result (λ executed. (pc : ℕ) → Any (λ row. pc ≡ row.pc) rows.now
         → is_among executed.items pc ≡ true) }
@@ -64,8 +64,8 @@ fn executed_in(alloc: Global, rows: &[Row]) -> Result<Vec<bool>, AllocError>
     Ok(executed)
 }
 
-/// Finds what holds in all states that a machine with an image can come to. Returns `None` if nothing is
-/// found within a bound on the steps of the search.
+/// Finds what is true of all states that a machine with an image can reach. Returns `None` if the search
+/// finds no table within its maximum number of steps.
 ///
 /// # Errors
 ///

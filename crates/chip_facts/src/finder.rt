@@ -1,4 +1,4 @@
-//! Finds a table. No proof depends on it, because `Table::is_proof` checks what it finds.
+//! Finds a table. No proof depends on this module, because `Table::is_proof` checks its result.
 
 mod index;
 mod search;

@@ -12,16 +12,16 @@ use chip_machine::limits::FLAGS;
 /// The number of words of a set of values of I.
 pub(crate) const INDEX_WORDS: usize = 65;
 
-/// A set of values of I: address a is at bit a, and all values past the memory are at the bit after those.
+/// A set of values of I: address a is bit a, and the next bit stands for all values past the memory.
 pub(crate) type IndexSet = [u64; INDEX_WORDS];
 
-/// The number of different numbers that fit into such a set.
+/// The number of distinct numbers that such a set can contain.
 pub(crate) const NUMBERS: usize = 64 * INDEX_WORDS;
 
 /// The number that stands for all values past the memory.
 pub(crate) const PAST: usize = MEMORY_BYTES;
 
-/// The number of bytes: those of the memory, and then the flag registers.
+/// The number of bytes: those of the memory followed by the flag registers.
 pub(crate) const BYTES: usize = MEMORY_BYTES + FLAGS;
 
 /// The number of words of the sets of all bytes.
@@ -40,7 +40,7 @@ pub(crate) fn only(at: usize) -> IndexSet
     set
 }
 
-/// Returns the addresses of the digits whose numbers are the low four bits of a byte of a set.
+/// Returns the addresses of the digits whose numbers are the low four bits of the bytes in a set.
 pub(crate) fn digits(values: &ByteSet, first: usize, size: usize) -> IndexSet
     requires { first + size * 15 < 4096 }
     ensures { (b : ℕ) → b < 256 → Holds values.now b → HoldsIndex result (first + size * (b % 16)) }
@@ -100,17 +100,17 @@ pub(crate) fn sums(index: &IndexSet, values: &ByteSet) -> IndexSet
     set
 }
 
-/// The values of a set from which a given number of bytes can be accessed.
+/// The values in a set from which a given number of bytes can be accessed.
 #[derive(Drop)]
 pub(crate) struct Access {
     pub(crate) set: IndexSet,
     /// Whether there is such a value.
     pub(crate) any: bool,
-    /// Whether there are values from which fewer bytes can be accessed.
+    /// Whether the set contains a value from which fewer bytes can be accessed.
     pub(crate) is_short: bool,
 }
 
-/// Separates the values of I from which `count` bytes can be accessed from the others.
+/// Separates the values of I from which `count` bytes can be accessed from the other values.
 pub(crate) fn fitting(index: &IndexSet, count: usize) -> Access
     requires some { 0 < count }
     requires few { count ≤ 32 }
@@ -140,8 +140,8 @@ pub(crate) fn fitting(index: &IndexSet, count: usize) -> Access
     }
 }
 
-/// Separates the values of I from which at least `least` bytes can be accessed, and finds out whether
-/// there are values from which `most` bytes can't be accessed. Zero bytes can be accessed from each value.
+/// Separates the values of I from which at least `least` bytes can be accessed, and reports whether there
+/// are values from which `most` bytes can't be accessed. Zero bytes can be accessed from every value.
 pub(crate) fn fitting_between(index: &IndexSet, least: usize, most: usize) -> Access
     requires few { least ≤ 32 }
     requires most { most ≤ 32 }
@@ -167,7 +167,7 @@ pub(crate) fn fitting_between(index: &IndexSet, least: usize, most: usize) -> Ac
     Access { set, any, is_short }
 }
 
-/// Returns the bytes that may be at an offset from one of some addresses, given the sets of all bytes.
+/// Returns the possible bytes at an offset from one of the given addresses, given the sets of all bytes.
 pub(crate) fn loaded(memory: &[u64], index: &IndexSet, offset: usize) -> ByteSet
     requires size { length memory.now ≡ SETS_WORDS }
     requires offset { offset < 16 }

@@ -1,4 +1,4 @@
-//! Knowledge about the registers, I, the delay timer and the size of the screen.
+//! What is known about the registers, I, the delay timer and the size of the screen.
 
 ghost use Rattle.std.specs.Prelude.{◌≡◌, ◌≢◌, ◌<◌, ◌+◌, ◌*◌, ℕ, IsTrue, MatchOption, false, replicate};
 ghost use Rattle.chip_machine.specs.State.{Core};
@@ -20,13 +20,13 @@ pub(crate) enum Second {
     Byte(u8),
 }
 
-/// Knowledge about the registers, I, the delay timer and the size of the screen.
+/// What is known about the registers, I, the delay timer and the size of the screen.
 #[derive(Clone, Copy)]
 pub(crate) struct Known {
     /// Register x may have byte b if bit 256 * x + b is set.
     pub(crate) registers: [u64; 64],
     pub(crate) index: IndexSet,
-    /// The delay timer is at most this.
+    /// An upper bound of the delay timer.
     pub(crate) delay: u8,
     pub(crate) may_be_low: bool,
     pub(crate) may_be_high: bool,
@@ -41,7 +41,7 @@ impl Known {
         block(&self.registers, x.number() as usize)
     }
 
-    /// Notes that the register with a number gets one of these bytes.
+    /// Records that the register with a number is set to one of these bytes.
     pub(crate) fn put(&mut self, x: usize, values: &ByteSet)
         requires { x < 16 }
         ensures known { (c : Core) (b : ℕ) → IsKnown self.old c → Holds values.now b
@@ -58,7 +58,7 @@ impl Known {
         self.registers[at + 3] = values[3];
     }
 
-    /// Notes that a register gets one of these bytes.
+    /// Records that a register is set to one of these bytes.
     pub(crate) fn set(&mut self, x: Reg, values: &ByteSet)
         ensures { (c : Core) (b : ℕ) → IsKnown self.old c → Holds values.now b
             → IsKnown self.new (with_reg x b c) }
@@ -66,7 +66,7 @@ impl Known {
         self.put(x.number() as usize, values);
     }
 
-    /// Notes that VF gets one of these bytes.
+    /// Records that VF is set to one of these bytes.
     pub(crate) fn set_flag(&mut self, values: &ByteSet)
         ensures { (c : Core) (b : ℕ) → IsKnown self.old c → Holds values.now b
             → IsKnown self.new (with_reg 15 b c) }
@@ -74,8 +74,8 @@ impl Known {
         self.put(15, values);
     }
 
-    /// Returns what is known after an operation on a register and a byte of a set, if the flag is this
-    /// one, or `None` if it never is.
+    /// Returns what is known after an operation on a register and a byte of a set that sets the flag to this
+    /// value. Returns `None` if the operation never does.
     fn operated_with(
         &self,
         operation: Operation,
@@ -96,8 +96,8 @@ impl Known {
         Some(known)
     }
 
-    /// Returns what is known after an operation on two registers, if the flag is this one, or `None` if
-    /// it never is. The flag also tells more about the second register.
+    /// Returns what is known after an operation on two registers that sets the flag to this value, or `None` if
+    /// the operation never does. The flag also limits the values of the second register.
     fn operated_by(&self, operation: Operation, flag: u8, x: Reg, y: Reg) -> Option<Known>
         ensures { (c : Core) → IsKnown self.now c → flag_of operation (reg c x) (reg c y) ≡ flag
             → MatchOption result ⊥
@@ -114,8 +114,8 @@ impl Known {
         Some(known)
     }
 
-    /// Returns what is known after an operation on a register and a second byte, if the flag is this one,
-    /// or `None` if it never is.
+    /// Returns what is known after an operation on a register and a second byte that sets the flag to this
+    /// value, or `None` if the operation never does.
     pub(crate) fn operated(
         &self,
         operation: Operation,
@@ -135,7 +135,7 @@ impl Known {
         }
     }
 
-    /// Whether the other knowledge is true of each core that this one is true of.
+    /// Whether `other` is true of each core that `self` is true of.
     pub(crate) fn is_within(&self, other: &Known) -> bool
         ensures { IsTrue result → (c : Core) → IsKnown self.now c → IsKnown other.now c }
     {

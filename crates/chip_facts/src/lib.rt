@@ -1,7 +1,7 @@
-//! Facts about all states that any keys, any random bytes and any speed lead a machine to.
+//! Facts about all states that a machine can reach with any keys, any random bytes and any speed.
 #![tactic(auto)]
 
-// The proved modules: they find out whether a table is closed.
+// The proved modules, which check whether a table is closed.
 mod accesses;
 mod bits;
 mod byte_set;
@@ -16,7 +16,7 @@ mod table;
 mod transfer;
 mod view;
 
-// The module that finds a table. Nothing is claimed about it.
+// The module that finds a table. No contract claims anything about it.
 mod finder;
 
 pub use facts::{Facts, facts_of};

@@ -22,7 +22,7 @@ pub(crate) enum Operation {
     SubtractFrom,
     ShiftRight,
     ShiftLeft,
-    /// The first byte. The flag tells whether both bytes are the same.
+    /// The first byte. The flag is 1 if both bytes are equal, otherwise 0.
     Compare,
 }
 
@@ -45,8 +45,8 @@ impl Operation {
         }
     }
 
-    /// Returns VF after the operation or, for a comparison, whether the bytes are the same. Returns 0 for
-    /// an operation without a flag.
+    /// Returns VF after the operation or, for a comparison, 1 if the bytes are equal and otherwise 0. Returns
+    /// 0 for an operation without a flag.
     #[inline]
     pub(crate) fn flag(self, first: u8, second: u8) -> u8
         ensures { result ≡ flag_of self first second }
@@ -63,7 +63,7 @@ impl Operation {
     }
 }
 
-/// The results of an operation on those pairs of two sets that give a certain flag.
+/// The results of an operation on those pairs from two sets that set the flag to a certain value.
 #[derive(Drop)]
 pub(crate) struct Pairs {
     /// Whether there is such a pair.
@@ -73,8 +73,8 @@ pub(crate) struct Pairs {
     pub(crate) seconds: ByteSet,
 }
 
-/// Returns the results of an operation on a byte of a set and a second byte, for those bytes that give a
-/// flag, by shifting the whole set. Returns `None` for an operation that can't be computed in this way.
+/// Returns the results of an operation on a second byte and those bytes in a set that set the flag to this
+/// value, by shifting the whole set. `None` if a shift can't compute the operation.
 fn made_at_once(operation: Operation, flag: u8, firsts: &ByteSet, second: u8) -> Option<ByteSet>
     ensures { IfSome result (λ made. (a : ℕ) → a < 256 → Holds firsts.now a
         → flag_of operation a second ≡ flag → Holds made (value_of operation a second)) }
@@ -103,7 +103,7 @@ impl Pairs {
         }
     }
 
-    /// Adds the pairs of each byte of a set and a second byte, one after another.
+    /// Adds the pairs of each byte in a set and a second byte, one after the other.
     fn add_each(&mut self, operation: Operation, flag: u8, firsts: &ByteSet, second: u8)
         ensures kept { (v b : ℕ) → IsMade self.old v b → IsMade self.new v b }
         ensures added { (a : ℕ) → a < 256 → Holds firsts.now a → flag_of operation a second ≡ flag
@@ -116,7 +116,7 @@ impl Pairs {
         }
     }
 
-    /// Adds results that were computed with a second byte.
+    /// Adds the results of an operation with a second byte.
     fn add_made(&mut self, made: &ByteSet, second: u8)
         ensures kept { (v b : ℕ) → IsMade self.old v b → IsMade self.new v b }
         ensures added { (v : ℕ) → v < 256 → Holds made.now v → IsMade self.new v second }
@@ -128,7 +128,7 @@ impl Pairs {
         }
     }
 
-    /// Adds the pairs of each byte of a set and a second byte.
+    /// Adds the pairs of each byte in a set and a second byte.
     fn add_all(&mut self, operation: Operation, flag: u8, firsts: &ByteSet, second: u8)
         ensures kept { (v b : ℕ) → IsMade self.old v b → IsMade self.new v b }
         ensures added { (a : ℕ) → a < 256 → Holds firsts.now a → flag_of operation a second ≡ flag
@@ -141,8 +141,8 @@ impl Pairs {
     }
 }
 
-/// Returns the results of an operation on those pairs of two sets that give a flag, by trying each pair.
-/// If `same` is true, both bytes are the same, so only pairs of a byte with itself are tried.
+/// Returns the results of an operation on those pairs from two sets that set the flag to this value, by
+/// trying each pair. If `same` is true, both bytes are equal, so tries only pairs of a byte with itself.
 fn pairs_tried(
     operation: Operation,
     flag: u8,
@@ -171,13 +171,13 @@ fn pairs_tried(
     made
 }
 
-/// Whether a set has at least two bytes.
+/// Whether a set contains at least two bytes.
 fn has_several(set: &ByteSet) -> bool {
     next(set, next(set, 0).saturating_add(1)) < 256
 }
 
-/// Returns the results of an operation on those pairs of two sets that give a flag. If `same` is true,
-/// both bytes are those of one register, so only pairs of a byte with itself count.
+/// Returns the results of an operation on those pairs from two sets that set the flag to this value. If
+/// `same` is true, both bytes come from one register, so only pairs of a byte with itself count.
 pub(crate) fn pairs_made(
     operation: Operation,
     flag: u8,

@@ -12,7 +12,7 @@ use std::alloc::{AllocError, Global};
 #[derive(Clone, Copy)]
 pub(crate) enum Way {
     Same,
-    /// The call stack gets one more return address.
+    /// One more return address is added to the call stack.
     Call(u16),
     Return,
 }
@@ -25,8 +25,8 @@ pub(crate) struct Successor {
     pub(crate) known: Known,
 }
 
-/// The bytes that a step may store, one after another from one of some addresses on. The flag registers
-/// come after the memory.
+/// The bytes that a step may store consecutively, starting at one of several addresses. The flag registers
+/// follow the memory.
 #[derive(Drop)]
 pub(crate) struct Stored {
     pub(crate) at: IndexSet,

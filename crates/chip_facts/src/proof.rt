@@ -1,4 +1,4 @@
-//! Whether each reached state is in a table.
+//! The check that a table contains each reached state.
 
 ghost use Rattle.std.specs.Prelude.{◌≡◌, ◌≤◌, ◌<◌, ◌*◌, ◌+◌, ℕ, All, IfOk, IsTrue, length, slice_index};
 ghost use Rattle.chip_lang.specs.declared.limits.TheConstants.{IMAGE_BYTES};
@@ -17,7 +17,7 @@ use chip_machine::{Machine, Quirks};
 use std::alloc::{AllocError, Global};
 
 impl Table {
-    /// Whether the table allows the bytes of the memory and the flag registers at the start.
+    /// Whether the table allows the memory and the flag registers at the start.
     fn has_memory(&self, memory: &[u8]) -> bool
         requires sets { length self.now.memory.items ≡ SETS_WORDS }
         requires bytes { length memory.now ≡ 4096 }
@@ -40,7 +40,7 @@ impl Table {
         true
     }
 
-    /// Whether all steps from all rows stay in the table.
+    /// Whether all steps from all rows lead back into the table.
     fn is_closed(&self, alloc: Global, quirks: Quirks) -> Result<bool, AllocError>
         requires { length self.now.memory.items ≡ SETS_WORDS }
         ensures { IfOk result (λ closed. IsTrue closed → All (IsClosed self.now quirks) self.now.rows.items) }
@@ -53,7 +53,7 @@ impl Table {
         Ok(true)
     }
 
-    /// Whether each state that is reached from an image is in the table.
+    /// Whether each state that can be reached from an image is in the table.
     pub(crate) fn is_proof(
         &self,
         alloc: Global,

@@ -1,5 +1,5 @@
-//! The rows of the table of instructions that change registers, I, timers, the screen or the turn of the
-//! keys, and access no memory.
+//! The rows of the instruction table that don't access memory: those that change registers, I, timers, the
+//! screen, pc or the call stack, and those that read the keys.
 
 ghost use Rattle.std.specs.Prelude.{◌≡◌, ◌<◌, ◌+◌, ◌*◌, ◌%◌, ℕ, Bool, Ok, IfOk, if◌then◌else◌};
 ghost use Rattle.chip_machine.specs.State.{Core, State};
@@ -26,7 +26,7 @@ use std::alloc::{AllocError, Global};
 
 #[tactic(auto, unfolding(chip_machine::specs::Step::effect))]
 impl Before<'_> {
-    /// Returns what is known after a register got one of these bytes.
+    /// Returns what is known after a register is set to one of these bytes.
     pub(crate) fn with(&self, x: Reg, values: &ByteSet) -> Known
         ensures { (c : Core) (b : ℕ) → IsKnown self.now.known c → Holds values.now b
             → IsKnown result (with_reg x b c) }
@@ -36,7 +36,7 @@ impl Before<'_> {
         known
     }
 
-    /// Returns what is known after I got one of these values.
+    /// Returns what is known after I is set to one of these values.
     pub(crate) fn with_index(&self, index: IndexSet) -> Known
         ensures { (c : Core) (i : ℕ) → IsKnown self.now.known c → i < 65536 → HoldsIndex index i
             → IsKnown result (with_index i c) }
@@ -46,7 +46,7 @@ impl Before<'_> {
         known
     }
 
-    /// Returns the outcome that goes on to the next instruction, where this is known.
+    /// Returns the outcome that moves pc to the next instruction, with what is then known.
     pub(crate) fn on(&self, alloc: Global, known: Known) -> Result<Outcome, AllocError>
         requires { self.now.pc < 4095 }
         ensures { IfOk result (λ out. (s : State) (new : Core) → IsAt self.now s
@@ -57,7 +57,7 @@ impl Before<'_> {
     }
 
     /// Returns the outcome that sets a register to the result of an operation without a flag. VF becomes
-    /// 0 if `clears` is true, and stays otherwise.
+    /// 0 if `clears` is true, and otherwise stays.
     pub(crate) fn plain(
         &self,
         alloc: Global,

@@ -1,5 +1,5 @@
-//! Tables of rows. A row contains what is known when the machine is at an address with a call stack. Once
-//! a table is found to be closed, each reached state lies in one of its rows.
+//! Tables of rows. A row records what is known when the machine is at an address with a call stack. If a
+//! table passes the test that it is closed, each reached state lies in one of its rows.
 
 ghost use Rattle.std.specs.Prelude.{◌≡◌, ◌<◌, ◌+◌, ◌*◌, ℕ, Any, Contains, IfOk, IfSome, IsTrue, Result, length};
 ghost use Rattle.chip_lang.specs.Decoding.{decode_of};
@@ -30,13 +30,13 @@ pub struct Left {
     pub stop: Stop,
 }
 
-/// Knowledge about the machine at an address with a call stack.
+/// What is known when the machine is at an address with a call stack.
 #[derive(Drop)]
 pub struct Row {
     pub(crate) pc: u16,
     pub(crate) frames: Vec<u16>,
     pub(crate) known: Known,
-    /// The numbers of the rows that steps from this one lead to.
+    /// The numbers of the rows that steps from this row lead to.
     pub(crate) leads: Vec<u32>,
 }
 
@@ -49,7 +49,7 @@ pub(crate) struct Table {
     pub(crate) left: Vec<Left>,
 }
 
-/// Whether a call stack is the one after a step.
+/// Whether `then` is the call stack after a step from `frames`.
 fn are_frames(then: &[u16], way: Way, frames: &[u16]) -> bool
     ensures { IsTrue result → then.now ≡ frames_by way frames.now }
 {
@@ -67,7 +67,7 @@ fn are_frames(then: &[u16], way: Way, frames: &[u16]) -> bool
 }
 
 impl Table {
-    /// Whether a stop is one of those that aren't excluded.
+    /// Whether a stop is in the list of stops that aren't excluded.
     pub(crate) fn has_left(&self, pc: u16, stop: Stop) -> bool
         ensures { IsTrue result → Contains self.now.left.items (record { pc = pc; stop = stop }) }
     {
@@ -79,7 +79,7 @@ impl Table {
         false
     }
 
-    /// Whether one of some rows covers the state that a step leads to.
+    /// Whether one of the given rows covers the state that a step leads to.
     pub(crate) fn has_row(&self, leads: &[u32], frames: &[u16], successor: &Successor) -> bool
         ensures { IsTrue result → (c : Core) → IsNext frames.now c successor.now
             → IsInTable self.now.rows.items c }
@@ -98,7 +98,7 @@ impl Table {
         false
     }
 
-    /// Whether the table allows each byte of a set at an address.
+    /// Whether the table allows every byte of a set at an address.
     fn has_bytes(&self, at: usize, values: &[u64; 4]) -> bool
         requires { length self.now.memory.items ≡ SETS_WORDS }
         ensures { IsTrue result → (b : ℕ) → Holds values.now b
@@ -125,7 +125,7 @@ impl Table {
         true
     }
 
-    /// Whether a stop, if there is one, is one of those that aren't excluded.
+    /// Whether a stop, if there is one, is in the list of stops that aren't excluded.
     fn has_stop(&self, pc: u16, stop: Option<Stop>) -> bool
         ensures { IsTrue result → IfSome stop (λ why.
             Contains self.now.left.items (record { pc = pc; stop = why })) }
@@ -136,7 +136,7 @@ impl Table {
         }
     }
 
-    /// Whether the table allows the bytes that a step stores, if it stores some.
+    /// Whether the table allows the bytes that a step stores, if it stores any.
     fn has_changes(&self, stored: &Option<Stored>) -> bool
         requires { length self.now.memory.items ≡ SETS_WORDS }
         ensures { IsTrue result → IfSome stored.now (λ stored. (at byte : ℕ) → IsStored stored at byte
@@ -148,7 +148,7 @@ impl Table {
         }
     }
 
-    /// Whether some rows cover all states that a step leads to.
+    /// Whether the given rows cover all states that a step leads to.
     fn has_next(&self, leads: &[u32], frames: &[u16], next: &[Successor]) -> bool
         ensures { IsTrue result → (c : Core) → Any (IsNext frames.now c) next.now
             → IsInTable self.now.rows.items c }
@@ -161,7 +161,7 @@ impl Table {
         true
     }
 
-    /// Whether the table, with these rows, covers everything that a step may do.
+    /// Whether the table, with the given rows, covers everything that a step may do.
     fn has_outcome(&self, before: &Before<'_>, leads: &[u32], out: &Outcome) -> bool
         requires { length self.now.memory.items ≡ SETS_WORDS }
         ensures { IsTrue result → before.now.memory.now ≡ self.now.memory.items
@@ -174,7 +174,7 @@ impl Table {
             && self.has_next(leads, before.frames, &out.next)
     }
 
-    /// Whether the table, with these rows, covers everything that a word may do.
+    /// Whether the table, with the given rows, covers everything that a word may do.
     fn has_word(
         &self,
         alloc: Global,
@@ -198,7 +198,7 @@ impl Table {
         }
     }
 
-    /// Whether each step from a row leads into the table, or to a stop that isn't excluded.
+    /// Whether each step from a row leads to a row of the table, or to a stop that isn't excluded.
     pub(crate) fn is_closed_at(
         &self,
         alloc: Global,
@@ -231,7 +231,7 @@ impl Table {
         Ok(true)
     }
 
-    /// Whether the table, with these rows, covers everything that the words with a high byte may do.
+    /// Whether the table, with the given rows, covers everything that the words with a high byte may do.
     fn has_words(
         &self,
         alloc: Global,

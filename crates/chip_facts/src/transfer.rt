@@ -19,8 +19,8 @@ use chip_lang::number::{Addr, Reg};
 use chip_machine::{Quirks, Stop};
 use std::alloc::{AllocError, Global};
 
-/// The knowledge before a step: the address of the machine, its call stack, the possible values of its
-/// parts, and the bytes that its memory may have.
+/// What is known before a step: the address of the machine, its call stack, the possible values of its
+/// parts, and the possible bytes of its memory.
 #[derive(Clone, Copy)]
 pub(crate) struct Before<'a> {
     pub(crate) memory: &'a [u64],
@@ -31,7 +31,7 @@ pub(crate) struct Before<'a> {
 }
 
 impl Before<'_> {
-    /// Returns the successor at the next instruction, or at a later one.
+    /// Returns the successor at an address `by` bytes after pc.
     pub(crate) fn past(&self, by: u16, known: Known) -> Successor
         requires { self.now.pc + by < 65536 }
         ensures pc { result.pc ≡ self.now.pc + by }
@@ -45,8 +45,8 @@ impl Before<'_> {
         }
     }
 
-    /// Returns the successor if an operation gives this flag, which is put into VF, or `None` if it never
-    /// does.
+    /// Returns the successor if an operation computes this flag, which is put into VF, or `None` if it never
+    /// computes this flag.
     fn flagged(&self, operation: Operation, flag: u8, x: Reg, second: &Second) -> Option<Successor>
         requires { self.now.pc < 4095 }
         ensures small { (s : State) → IsAt self.now s → second_of second.now s.core < 256 }
@@ -60,8 +60,8 @@ impl Before<'_> {
         Some(self.past(2, known))
     }
 
-    /// Returns the successor if a comparison of two bytes gives this result, at the next instruction or
-    /// at the one after it. Returns `None` if it never does.
+    /// Returns the successor if a comparison of two bytes has this result, at the next instruction or at the
+    /// one after it. Returns `None` if the comparison never has this result.
     fn compared(&self, flag: u8, x: Reg, second: &Second, skips: bool) -> Option<Successor>
         requires { self.now.pc < 4095 }
         ensures small { (s : State) → IsAt self.now s → second_of second.now s.core < 256 }
@@ -92,7 +92,7 @@ impl Before<'_> {
         Ok(Outcome::leads(next))
     }
 
-    /// Returns the outcome that skips the next instruction if two bytes are equal, or if they aren't.
+    /// Returns the outcome that skips the next instruction if two bytes are equal, or if they differ.
     fn skips(
         &self,
         alloc: Global,
@@ -153,7 +153,7 @@ impl Before<'_> {
         Ok(Outcome::leads(next))
     }
 
-    /// Returns the register that a shift shifts.
+    /// Returns the register whose value a shift shifts.
     fn shifted(&self, x: Reg, y: Reg) -> Second
         ensures { (c : Core) → c.quirks ≡ self.now.quirks
             → second_of result c ≡ reg c (shifted_register x y c) }
@@ -165,7 +165,7 @@ impl Before<'_> {
         }
     }
 
-    /// Returns what an instruction of SUPER-CHIP may do. On other machines it is no instruction.
+    /// Returns what an instruction of SUPER-CHIP may do. On other machines, its word is not an instruction.
     fn if_super(
         &self,
         alloc: Global,

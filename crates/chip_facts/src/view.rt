@@ -15,14 +15,14 @@ use chip_lang::limits::MEMORY_BYTES;
 use chip_lang::number::Reg;
 
 impl Facts {
-    /// Returns the rows of the table. Each reached state that hasn't stopped lies in one of them.
+    /// Returns the rows of the table. Each reached state that hasn't stopped lies in one of these rows.
     pub fn rows(&self) -> &[Row]
         ensures { result.now ≡ self.now.rows.items }
     {
         &self.rows
     }
 
-    /// Whether the byte at an address may be this one. Past the end of the memory, the byte is 0.
+    /// Whether the byte at an address may have this value. Past the end of the memory, the byte is 0.
     pub fn may_have(&self, at: u16, byte: u8) -> bool
         ensures { (row : Row) (s : State) → IsInRow self.now row s
             → slice_index s.memory at ≡ byte → IsTrue result }
@@ -51,7 +51,7 @@ impl Row {
         self.frames.len()
     }
 
-    /// Whether a register may have this byte.
+    /// Whether a register may have this value.
     pub fn may_have(&self, x: Reg, byte: u8) -> bool
         ensures { (facts : Facts) (s : State) → IsInRow facts self.now s → reg s.core x ≡ byte
             → IsTrue result }
@@ -70,14 +70,14 @@ impl Row {
         contains(&self.known.index, (index as usize).min(PAST))
     }
 
-    /// Returns a number that the delay timer never exceeds.
+    /// Returns an upper bound of the delay timer.
     pub fn delay_bound(&self) -> u8
         ensures { (facts : Facts) (s : State) → IsInRow facts self.now s → s.core.delay ≤ result }
     {
         self.known.delay
     }
 
-    /// Whether the screen may have its high size (if `high` is true) or its low size (otherwise).
+    /// Whether the screen may have its high size if `high` is true, or its low size if `high` is false.
     pub fn may_have_size(&self, high: bool) -> bool
         ensures { (facts : Facts) (s : State) → IsInRow facts self.now s → s.core.high ≡ high
             → IsTrue result }

@@ -26,7 +26,7 @@ filled : (bytes : List ℕ) → Filled (slice_split is_newline bytes)
 filled [] = record { first = []; others = []; is = refl }
 filled (x ∷ xs) = filled_cond (is_newline x) _ _ (record { first = []; others = slice_split is_newline xs; is = refl }) (filled_first x (slice_split is_newline xs))
 
--- the lines of bytes whose first line is ended by a newline
+-- the lines of bytes whose first line ends with a newline
 pub ended_line : (bytes : List ℕ) → position_or_len is_newline bytes < length bytes →
     lines bytes ≡ strip_carriage_return (before_first is_newline bytes) ∷ lines (after_first is_newline bytes)
 ended_line bytes h =
@@ -38,7 +38,7 @@ not_empty : (bytes : List ℕ) → 0 < length bytes → cond (length bytes == 0)
 not_empty [] h = absurd (omega arith)
 not_empty (x ∷ xs) h = let e : (length (x ∷ xs) == 0) ≡ false = ne_eqb (length (x ∷ xs)) 0 (λ k. omega arith) in rw e refl
 
--- the lines of bytes without a newline: only one
+-- bytes without a newline form exactly one line
 pub last_line : (bytes : List ℕ) → 0 < length bytes → length bytes ≤ position_or_len is_newline bytes → lines bytes ≡ bytes ∷ []
 last_line bytes some h =
     let none : All (λ b. is_newline b ≡ false) bytes =

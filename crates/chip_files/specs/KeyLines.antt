@@ -1,5 +1,5 @@
--- The lines of a file of key events. A line `S K down` or `S K up` means what the command `kins S K down`
--- or `kins S K up` means in a script, and K may also be a letter A to F (chosen by this project).
+-- The lines of a file of key events. A line `S K down` or `S K up` has the effect of the script command
+-- `kins S K down` or `kins S K up`. K may also be a letter A to F (chosen by this project).
 use Rattle.std.specs.Prelude.{ℕ, ◌-◌, ◌==◌, ◌&&◌, ◌||◌, Bool, false, List, [], ◌∷◌, ◌++◌, codes, length, map, nat_le, if◌then◌else◌, take, drop}
 use Rattle.std.specs.List.{before_first, list_all, position_or_len}
 use Rattle.std.specs.Str.Lines.{lines}
@@ -23,7 +23,7 @@ skip_spaces (byte ∷ text) = if is_space byte then skip_spaces text else byte �
 abbrev pub skip_word : List ℕ → List ℕ
 skip_word text = drop (position_or_len is_space text) text
 
--- the part of a text from its second word on, where spaces separate words; empty if it has no second word
+-- the part of a text from its second word on, if spaces separate words; empty if there is no second word
 unfoldable pub from_second_word : List ℕ → List ℕ
 from_second_word text = skip_spaces (skip_word (skip_spaces text))
 
@@ -37,19 +37,19 @@ is_key_letter [] = false
 is_key_letter (letter ∷ []) = nat_le 65 letter && nat_le letter 70 || nat_le 97 letter && nat_le letter 102
 is_key_letter (letter ∷ other ∷ word) = false
 
--- a text, with `#` before it if its first word is such a letter
+-- a text, with `#` before it if its first word is one letter A to F
 unfoldable pub with_sign : List ℕ → List ℕ
 with_sign text = if is_key_letter (before_first is_space text) then codes "#" ++ text else text
 
--- a text, with `#` before its second word if that is such a letter: `10 a down` becomes `10 #a down`
+-- a text, with `#` before its second word if that word is one letter A to F: `10 a down` becomes `10 #a down`
 abbrev pub with_key_number : List ℕ → List ℕ
 with_key_number text = before_second_word text ++ with_sign (from_second_word text)
 
--- the command of a script with the effect of a line: empty if the line is blank or only a comment
+-- the script command with the effect of a line; empty if the line is blank or only a comment
 unfoldable pub key_command : List ℕ → List ℕ
 key_command line =
     if list_all is_space (said line) then [] else codes "kins " ++ with_key_number (said line)
 
--- the commands for the lines of a file, which is split into lines as a source is
+-- the commands for the lines of a file; a file is split into lines in the same way as a source
 abbrev pub key_commands : List ℕ → List (List ℕ)
 key_commands file = map key_command (lines file)

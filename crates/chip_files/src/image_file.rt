@@ -10,27 +10,27 @@ use std::path::{Path, PathBuf};
 use std::rt::Files;
 use std::{fs, io};
 
-// The number of links that are followed one after another: as many as Linux follows.
+// The maximum number of links to follow one after another, the same as in Linux.
 const MOST_LINKS: u32 = 40;
 
-/// The name that stands for the standard input in a list of file names.
+/// The name that means the standard input in a list of file names.
 pub const STANDARD_INPUT: &str = "/dev/stdin";
 
 /// Writes `bytes` to the file `name` atomically. After an error, the file has its old content, or is
 /// still missing if there was none before.
 ///
-/// The names in `taken` are those of files that the command reads or has written. Such a file isn't
-/// written: the call fails with `InvalidInput`. If `taken` contains `STANDARD_INPUT`, the same is true
-/// of the file that is the standard input.
+/// `taken` names the files that the command reads or has written. The call fails with `InvalidInput`
+/// if `name` is one of these files. If `taken` contains `STANDARD_INPUT`, the file that is the
+/// standard input counts too.
 ///
-/// The bytes go to a new file in the same folder, for example `chipbench.part1`. Once they are on the
-/// disk, that file is renamed to `name`; after an error it is removed. An existing file is replaced
-/// only if it may be written, and its permissions are kept. If `name` is a link, the file that it leads
-/// to is replaced or created.
+/// The call writes the bytes to a new file in the same folder, for example `chipbench.part1`. Once the
+/// bytes are on the disk, it renames that file to `name`; after an error, it removes the file. It
+/// replaces an existing file only if that file may be written, and keeps the permissions. If `name` is
+/// a link, its target is replaced or created.
 ///
-/// Some files can't be replaced by a new one, so they are written in place, and an error may leave some
-/// of the bytes in them: a file with several names, a file of another owner or group, and anything
-/// that isn't a regular file, such as a terminal or a pipe.
+/// Some files can't be replaced by a new one: a file with several names, a file of another owner or
+/// group, and anything that isn't a regular file, such as a terminal or a pipe. These files are written
+/// in place, and an error may leave some of the bytes in them.
 pub fn write_file<F: Files>(
     alloc: Global,
     files: &F,
@@ -49,7 +49,7 @@ pub fn write_file<F: Files>(
     }
 }
 
-// Writes the bytes to a file that exists and is open as `old`: replaces it, or writes it in place.
+// Writes the bytes to an existing file, which is open as `old`: replaces the file, or writes it in place.
 fn write_over<F: Files>(
     alloc: Global,
     files: &F,
@@ -79,7 +79,7 @@ fn write_over<F: Files>(
     }
 }
 
-// Whether the open file, whose metadata is given, is one of the files in `taken`.
+// Whether the open file, whose metadata is `open`, is one of the files in `taken`.
 fn is_taken<F: Files>(files: &F, taken: &[Option<&str>], open: &Metadata) -> io::Result<bool> {
     for name in taken {
         if let Some(name) = name
@@ -91,9 +91,9 @@ fn is_taken<F: Files>(files: &F, taken: &[Option<&str>], open: &Metadata) -> io:
     Ok(false)
 }
 
-// Whether the open file, whose metadata is given, has that name. The standard input counts only if it is a
-// file, because a terminal is both read and written. If the system doesn't tell what the standard input is,
-// the answer is no.
+// Whether the open file, whose metadata is `open`, has the name `name`. The standard input counts only if
+// it is a file, because a terminal is both read and written. If the system doesn't report what the standard
+// input is, the answer is no.
 fn is_named<F: Files>(files: &F, name: &str, open: &Metadata) -> io::Result<bool> {
     let is_input = name == STANDARD_INPUT;
     match fs::metadata(files, name) {
@@ -103,14 +103,14 @@ fn is_named<F: Files>(files: &F, name: &str, open: &Metadata) -> io::Result<bool
     }
 }
 
-// Whether both are the metadata of one file, under whatever names. A file system other than that of the
-// operating system has no inode numbers, so none of its files count as one.
+// Whether both are the metadata of one file, whatever its names are. Files outside the operating
+// system's file system have no inode numbers, so they never count as the same file.
 fn is_same(one: &Metadata, other: &Metadata) -> bool {
     one.ino() != 0 && one.ino() == other.ino() && one.dev() == other.dev()
 }
 
-// The name that a name leads to when each link is followed. A file of that name need not exist. Fails with
-// `FilesystemLoop` after `MOST_LINKS` links.
+// Returns the name that `name` leads to after every link is followed. No file of that name needs to exist.
+// Fails with `FilesystemLoop` after `MOST_LINKS` links.
 fn followed<F: Files>(alloc: Global, files: &F, name: &str) -> io::Result<PathBuf> {
     let mut place = PathBuf::from_str(alloc, name)?;
     for _ in 0..MOST_LINKS {
@@ -125,7 +125,7 @@ fn followed<F: Files>(alloc: Global, files: &F, name: &str) -> io::Result<PathBu
     Err(io::Error::from(ErrorKind::FilesystemLoop))
 }
 
-// Whether the name `place` is that of the open file, whose metadata is given, and not of a link to it.
+// Whether `place` names the open file itself, whose metadata is `open`, and not a link to the file.
 fn leads_to<F: Files>(files: &F, place: &str, open: &Metadata) -> bool {
     match fs::symlink_metadata(files, place) {
         Ok(metadata) => is_same(&metadata, open),
@@ -146,7 +146,7 @@ fn write_in_place<F: OpenFile + Write + Drop>(mut file: F, bytes: &[u8]) -> io::
     file.sync_all()
 }
 
-// A new file with a name of its own, in the folder of the file that it will replace or become.
+// A new file with its own name, in the folder of the file that it will replace or become.
 #[derive(Drop)]
 struct Part<F: Drop> {
     name: PathBuf,
@@ -154,8 +154,8 @@ struct Part<F: Drop> {
 }
 
 impl<F: OpenFile + Write + Drop> Part<F> {
-    // Creates the first of `chipbench.part1`, `chipbench.part2` and so on that doesn't exist. A file that
-    // exists is never opened, so one that a killed run left behind stays there and is in nobody's way.
+    // Creates the first of `chipbench.part1`, `chipbench.part2` and so on that doesn't exist. Existing
+    // files are never opened, so a file that a killed run left behind stays there and does no harm.
     fn new<S: Files<File = F>>(alloc: Global, files: &S, place: &str) -> io::Result<Self> {
         for number in 1..=u32::MAX {
             let own_name = format!(in alloc; "chipbench.part{number}")?;
@@ -180,7 +180,7 @@ impl<F: OpenFile + Write + Drop> Part<F> {
         let _ = fs::remove_file(files, &self.name);
     }
 
-    // Writes the bytes to the new file and renames it to `place`, or removes it on an error.
+    // Writes the bytes to the new file and renames the file to `place`, or removes it after an error.
     fn put<S: Files>(
         self,
         files: &S,
@@ -216,7 +216,7 @@ fn fill<F: OpenFile + Write + Drop>(
     file.sync_all()
 }
 
-// Writes the new name to the disk, if the system lets a folder be synced. Errors are ignored, because the
+// Writes the new name to the disk, if the system allows syncing a folder. Errors are ignored, because the
 // file is written either way.
 fn sync_folder<F: Files>(files: &F, place: &str) {
     let folder = match Path::new(place).parent() {

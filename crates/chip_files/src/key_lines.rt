@@ -7,8 +7,8 @@ ghost use Rattle.chip_files.specs.KeyLines.{is_space, is_key_letter, key_command
 use memchr::memchr;
 use std::alloc::{AllocError, Global};
 
-/// Returns the first line of some bytes and the bytes that follow it. The line comes without the newline
-/// that ends it, and without a carriage return before that newline.
+/// Returns the first line of `bytes` and the bytes after that line. The line excludes the newline that
+/// ends it, and a carriage return before that newline.
 pub fn first_line(bytes: &[u8]) -> (&[u8], &[u8])
     requires { 0 < length bytes.now }
     ensures first { lines bytes.now ≡ result.0.now ∷ lines result.1.now }
@@ -22,10 +22,10 @@ pub fn first_line(bytes: &[u8]) -> (&[u8], &[u8])
     }
 }
 
-/// Returns the command of a script for a line of the file: `kins S K down` for `S K down`, and
-/// `kins S K up` for `S K up`. K may also be a letter A to F, in either case, which gets a `#` before it
-/// in the command. A semicolon begins a comment. A line that is blank or only a comment gives an empty
-/// command.
+/// Returns the script command for a line of the file: `kins S K down` for `S K down`, and `kins S K up`
+/// for `S K up`. K may also be a letter A to F, in either case, and the command then has a `#` before
+/// the letter. A semicolon begins a comment. For a line that is blank or only a comment, the command is
+/// empty.
 ///
 /// # Errors
 ///
@@ -45,7 +45,7 @@ pub fn key_command(alloc: Global, line: &[u8]) -> Result<Vec<u8>, AllocError>
     Ok(command)
 }
 
-// Adds a text that begins with a key, with `#` before it if the key is a letter.
+// Appends a text that begins with a key, after a `#` if the key is a letter.
 #[tactic(auto, unfolding(crate::specs::KeyLines::with_sign))]
 fn push_key(command: &mut Vec<u8>, text: &[u8]) -> Result<(), AllocError>
     ensures { OnOk result (command.new.items ≡ command.old.items ++ with_sign text.now) }
@@ -121,7 +121,7 @@ fn without_carriage_return(line: &[u8]) -> &[u8]
     }
 }
 
-// The place where a byte first occurs in a text, or the text's length if it doesn't occur.
+// The index of the first occurrence of a byte in a text, or the text's length if the byte doesn't occur.
 fn place_of(wanted: u8, text: &[u8]) -> usize
     ensures value { result ≡ position_or_len (λ byte. byte == wanted) text.now }
     ensures within { result ≤ length text.now }

@@ -1,4 +1,4 @@
-//! The program's files: reading a file, writing one, and the lines of a file of key events.
+//! Reading files, writing files, and the lines of a file of key events.
 #![tactic(auto)]
 
 mod image_file;

@@ -22,8 +22,8 @@ pub fn find_folder<F: Files>(files: &F, name: &str) -> io::Result<()> {
     }
 }
 
-// Returns the contents of a file, up to `most` bytes. If the file tells its length, memory for all of them is
-// allocated at once.
+// Returns the contents of a file, up to `most` bytes. If the file reports its length, the function allocates
+// memory for all of them at once.
 fn read_whole<F: OpenFile + Read + Drop>(alloc: Global, file: F, most: u32) -> io::Result<Vec<u8>>
     ensures { IfOk result (λ bytes. IfSome (F.remaining file)
         (λ all. bytes.items ≡ take most all)) }
@@ -32,7 +32,7 @@ fn read_whole<F: OpenFile + Read + Drop>(alloc: Global, file: F, most: u32) -> i
         Ok(metadata) => metadata.len().min(u64::from(most)),
         Err(_) => 0,
     };
-    // Allocate one byte more, so that reading finds the end of the file without another allocation.
+    // Allocate one extra byte, so that reading finds the end of the file without another allocation.
     let mut bytes = Vec::with_capacity(alloc, length as usize + 1)?;
     read_most(file, &mut bytes, most)?;
     Ok(bytes)

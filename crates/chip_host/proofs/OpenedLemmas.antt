@@ -1,4 +1,4 @@
--- What is printed of a source that opens.
+-- The output of a command on a source, depending on whether the source opens.
 use Rattle.std.proofs.Common.{◌≡◌, inl, inr, ℕ, Bool, false, true, List, Option, None, Some, Result, Ok, Err, IfErr, IfOk, refl, subst}
 use Rattle.std.specs.Prelude.{IsErr}
 use Rattle.chip_asm.specs.Lines.{lines_of, open_fault}
@@ -20,7 +20,7 @@ module _ {W : Type 0} (contents : W → Option (List ℕ)) (old new : Tally W) w
   refused unopened.TooManyLines ended r = r
   refused unopened.OutOfMemory ended r = rw r.0 r.1
 
-  -- an answer of which something is known is printed, unless memory ran out for it
+  -- an answer that passes a test is printed, unless memory ran out for the answer
   pub delivers_such : {E : Type 0} (answer : Result Answer E) (Such : Printed → Type 0) (ended : Outcome) → IfOk answer (λ given. Such (printed_by given)) →
       ((wanted : Printed) → IfOk answer (λ given. printed_by given ≡ wanted) → Prints contents old new wanted ended) →
       IfErr answer (λ e. (ended ≡ Err failure.OutOfMemory) × (new ≡ old)) → PrintsSuch contents old new Such ended
@@ -29,7 +29,7 @@ module _ {W : Type 0} (contents : W → Option (List ℕ)) (old new : Tally W) w
 
 module _ {W : Type 0} (contents : W → Option (List ℕ)) (old new : Tally W) (source : List ℕ) (ended : Outcome)
     (Did : List (List ℕ) → Outcome → Type 0) where
-  -- what was done with the lines of a source that opens
+  -- the effects on the lines of a source that opens
   pub opened_lines : (lines : List (List ℕ)) → open_fault source ≡ None → lines ≡ lines_of source → Did lines ended →
       IfOpens contents old new (open_fault source) (Did (lines_of source)) ended
   opened_lines lines opens same did = rw opens (subst (λ (l : List (List ℕ)). Did l ended) same did)
@@ -47,7 +47,7 @@ module _ {W : Type 0} (contents : W → Option (List ℕ)) (old new : Tally W) (
       by_fault (Some f) e same = rw e same
   unopened_lines e (inr found) r short = rw found (refused contents old new e ended r)
 
--- what was done with a source that was read
+-- the effects on a source that was read
 module _ {R W : Type 0} (remaining : R → Option (List ℕ)) (contents : W → Option (List ℕ)) (in_old in_new : Tally R) (old new : Tally W)
     (name : Bor (List ℕ)) (bytes : List ℕ) (ended : Outcome) (Did : List (List ℕ) → Outcome → Type 0) where
   abbrev OfLines : Type 0

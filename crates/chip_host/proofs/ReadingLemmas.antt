@@ -1,4 +1,4 @@
--- What was done with what was read.
+-- The effects of a command on its input.
 use Rattle.std.proofs.Common.{◌≡◌, ◌⊎◌, inl, inr, ℕ, Bool, true, false, List, [], Option, Some, None, Result, Ok, Err, IfErr, length, ◌≤◌, refl, sym, subst}
 use Rattle.std.specs.Prelude.{IsErrAnd}
 use Rattle.std.specs.Borrow.{Bor}
@@ -51,7 +51,7 @@ module _ {R : Type 0} (remaining : R → Option (List ℕ)) (in_old in_new : Tal
   keys_read None bytes Did ended none fits did = subst (λ (b : List ℕ). Did b ended) (none refl) did
   keys_read (Some name) bytes Did ended none fits did = inl (bytes, fits, did)
 
--- from what was read of one ending to another
+-- from the effects with one ending to the effects with another
 module _ {R : Type 0} (remaining : R → Option (List ℕ)) (in_old in_new : Tally R) (U V : Type 0) (ended other : Outcome)
     (errs : (Why : Failure → Type 0) → IsErrAnd ended Why → IsErrAnd other Why × V) where
   declined_next : (Why : Failure → Type 0) → Declined remaining in_old in_new U Why ended → Declined remaining in_old in_new V Why other
@@ -62,7 +62,7 @@ module _ {R : Type 0} (remaining : R → Option (List ℕ)) (in_old in_new : Tal
   source_next name Did Next f (inl (bytes, gives, did)) = inl (bytes, gives, f bytes did)
   source_next name Did Next f (inr (why, u)) = inr (errs (IsSourceUnread in_old in_new name) why)
 
-  -- the source that some bytes are
+  -- the source that some bytes produce
   taken_next : (is_image : Bool) (name : Bor (List ℕ)) (Did Next : List ℕ → Outcome → Type 0) → ((bytes : List ℕ) → Did bytes ended → Next bytes other) →
       (bytes : List ℕ) → AsSource is_image name U Did bytes ended → AsSource is_image name V Next bytes other
   taken_next false name Did Next f bytes did = f bytes did
@@ -101,7 +101,7 @@ module _ {R : Type 0} (remaining : R → Option (List ℕ)) (in_old in_new : Tal
 
 module _ {R : Type 0} (remaining : R → Option (List ℕ)) (in_old in_new : Tally R) (V : Type 0) (is_image : Bool) (name : Bor (List ℕ))
     (Did : List ℕ → Outcome → Type 0) (ended : Outcome) where
-  -- a source was read, and then this was done
+  -- a source was read, and then the command had these effects
   pub given_then : (source : List ℕ) → IsGiven remaining in_old in_new is_image name source → Did source ended →
       FromGiven remaining in_old in_new V is_image name Did ended
   given_then source given did =
@@ -117,7 +117,7 @@ module _ {R : Type 0} (remaining : R → Option (List ℕ)) (in_old in_new : Tal
 
 module _ {R : Type 0} (remaining : R → Option (List ℕ)) (in_old in_new : Tally R) (V : Type 0) (arguments : RunArguments)
     (Did : SessionSettings → List ℕ → List ℕ → Outcome → Type 0) (ended : Outcome) where
-  -- a run's arguments were read, and then this was done
+  -- the input of a run was read, and then the command had these effects
   pub asked_then : (asked : AskedRun) → IsAsked remaining in_old in_new arguments asked →
       Did asked.settings asked.keys.bytes.items asked.source.items ended → WithAsked remaining in_old in_new V arguments Did ended
   asked_then asked is did =
@@ -125,7 +125,7 @@ module _ {R : Type 0} (remaining : R → Option (List ℕ)) (in_old in_new : Tal
       (λ settings keys source done. (settings ≡ asked.settings) × (keys ≡ asked.keys.bytes.items) × (source ≡ asked.source.items)) Did
       (λ settings keys source e. rw (e.0, e.1, e.2) did) is.0
 
-  -- a run's arguments weren't read
+  -- the input of a run wasn't read
   pub asked_not : (quiet : V) (why : Failure) → ended ≡ Err why → IsUnasked remaining in_old in_new arguments why →
       WithAsked remaining in_old in_new V arguments Did ended
   asked_not quiet why e is =
@@ -133,7 +133,7 @@ module _ {R : Type 0} (remaining : R → Option (List ℕ)) (in_old in_new : Tal
       (λ settings keys source done. ⊥) Did (λ settings keys source none. absurd none) is
 
 module _ {R : Type 0} (remaining : R → Option (List ℕ)) (in_old in_new : Tally R) (arguments : RunArguments) where
-  -- what a run's arguments ask for was read
+  -- the input that a run's arguments ask for was read
   pub asked_is : (asked : AskedRun) → settings_asked arguments.settings ≡ Some asked.settings → (arguments.keys ≡ None → asked.keys.bytes.items ≡ []) →
       length asked.keys.bytes.items ≤ KEY_FILE_BYTES → IsGiven remaining in_old in_new arguments.is_image arguments.source asked.source.items → IsAsked remaining in_old in_new arguments asked
   asked_is asked settled keys fits given = (

@@ -1,6 +1,6 @@
--- The endings of commands, and the failures that hinder them (chosen by this project).
---     Outcome                        an ending, or the failure that hindered the command
---     ending_status, failure_status  the program's status after it
+-- The endings of commands, and the reasons why commands fail (chosen by this project).
+--     Outcome                        the ending of a command, or the reason why it failed
+--     ending_status, failure_status  the program's status after an ending or a failure
 --     settings_failure, arguments_failure     the failure for an error of settings or of arguments
 --     IsShort, is_bad_tape, IsUnsettled, IsUnread, IsUnreadWithin, IsUnwritten    memory ran out; a tape is
 --                                    bad; the settings are bad; a file can't be read, or written
@@ -28,8 +28,8 @@ ending_status Done = 0
 ending_status Faulty = 1
 ending_status Short = 4
 
--- the status after a failure: 3 for a file, input or output, 4 if memory ran out, and otherwise 2, because
--- the arguments, or a file of key events or a trace that they name, are at fault
+-- the status after a failure: 3 for a file, input or output, 4 if memory ran out, and otherwise 2; the
+-- cause of 2 is the arguments, or a file of key events or a trace that the arguments name
 abbrev pub failure_status : Failure → ℕ
 failure_status (failure.CannotRead name error) = 3
 failure_status (failure.TooLong name most) = 3
@@ -55,7 +55,7 @@ arguments_failure _ error = failure.Usage error
 abbrev pub IsShort : Failure → Type 0
 IsShort why = why ≡ failure.OutOfMemory
 
--- whether the tape is bad; no contract says which of its faults is reported
+-- whether the tape is bad; no contract states which fault of the tape is reported
 abbrev pub is_bad_tape : Failure → Bool
 is_bad_tape (failure.BadTape fault) = true
 is_bad_tape _ = false
@@ -64,23 +64,23 @@ is_bad_tape _ = false
 abbrev pub IsUnsettled : Failure → Type 0
 IsUnsettled why = (is_bad_tape why ≡ true) ⊎ (why ≡ failure.OutOfMemory)
 
--- the failures that hinder reading a file of that name
+-- the possible failures of reading a file with this name
 abbrev pub IsUnread : Bor (List ℕ) → Failure → Type 0
 IsUnread name hindrance =
     (hindrance ≡ failure.OutOfMemory)
     ⊎ ((why : IoError) × (hindrance ≡ failure.CannotRead name why))
 
--- the failures that hinder reading a file of that name that may have at most this many bytes
+-- the possible failures of reading a file with this name that may contain at most this many bytes
 abbrev pub IsUnreadWithin : (most : ℕ) → Bor (List ℕ) → Failure → Type 0
 IsUnreadWithin most name hindrance =
     IsUnread name hindrance ⊎ (hindrance ≡ failure.TooLong name most)
 
--- the failures that hinder writing a file of that name
+-- the possible failures of writing a file with this name
 abbrev pub IsUnwritten : Bor (List ℕ) → Failure → Type 0
 IsUnwritten name why =
     (why ≡ failure.OutOfMemory) ⊎ ((because : IoError) × (why ≡ failure.CannotWrite name because))
 
--- a file of that name was written, or it couldn't be
+-- a file with this name was written, or writing it failed
 abbrev pub IsFileWritten : Bor (List ℕ) → Outcome → Type 0
 IsFileWritten name ended = (ended ≡ Ok Done) ⊎ IsErrAnd ended (IsUnwritten name)
 

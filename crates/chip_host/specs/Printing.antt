@@ -2,7 +2,7 @@
 --     Printed, printed, printed_by   a text and an ending, and those of an answer
 --     unopened_text, IsUnopened, printed_faults, ending_with    a source that doesn't open, its faults, and how
 --                                    a command on it ends
---     Prints, Streams, PrintsSuch, IfOpens, Refuses    what was printed of that
+--     Prints, Streams, PrintsSuch, IfOpens, Refuses    which part of an output was printed
 --     Fails                          nothing was printed
 use Rattle.std.specs.Prelude.{◌≡◌, ◌⊎◌, ℕ, List, [], codes, Option, Some, None, Result, Ok, Err, IsErrAnd}
 use Rattle.std.specs.Io.KnownBytes.{Appends}
@@ -39,7 +39,7 @@ unopened_text (unopened.LineTooLong number) = codes "no O1\n"
 unopened_text unopened.TooManyLines = codes "no O2\n"
 unopened_text unopened.OutOfMemory = []
 
--- the reason why a source doesn't open: its fault, or memory that ran out as it was opened
+-- the reason why a source doesn't open: its fault, or out of memory
 abbrev pub IsUnopened : (source : List ℕ) → OpenError → Type 0
 IsUnopened source fault = (fault ≡ unopened.OutOfMemory) ⊎ (open_fault source ≡ Some fault)
 
@@ -52,36 +52,36 @@ ending_with (Some image) = Done
 ending_with None = Faulty
 
 module _ {W : Type 0} (contents : W → Option (List ℕ)) (old new : Tally W) where
-  -- The effects of a command that prints this: it printed all of it, or a front if a write failed, or nothing
-  -- if memory ran out.
+  -- The effects of a command that prints an output: the whole text was printed, or a prefix if a write
+  -- failed, or nothing if memory ran out.
   abbrev pub Prints : Printed → Result Ending Failure → Type 0
   Prints wanted (Ok ending) = (ending ≡ wanted.ending) × Writes contents old new wanted.text
   Prints wanted (Err failure.Output) = Breaks contents old new wanted.text
   Prints wanted (Err failure.OutOfMemory) = new ≡ old
   Prints wanted (Err _) = ⊥
 
-  -- some front of this text was printed, and nothing else, and no write failed
+  -- some prefix of this text was printed, and nothing else, and no write failed
   pub record WritesFront (text : List ℕ) : Type 0 where
     pub front : List ℕ
     pub begins : BeginsWith text front
     pub appended : Appends (contents old.inner) (contents new.inner) front
     pub no_failure : new.failures ≡ old.failures
 
-  -- The effects of a command that prints this part by part: it printed all of it, or a front if a write
-  -- failed or memory ran out.
+  -- The effects of a command that prints an output in parts: the whole text was printed, or a prefix if
+  -- a write failed or memory ran out.
   abbrev pub Streams : Printed → Result Ending Failure → Type 0
   Streams wanted (Ok ending) = (ending ≡ wanted.ending) × Writes contents old new wanted.text
   Streams wanted (Err failure.Output) = Breaks contents old new wanted.text
   Streams wanted (Err failure.OutOfMemory) = WritesFront wanted.text
   Streams wanted (Err _) = ⊥
 
-  -- Something that passes a test was printed, or memory ran out before.
+  -- An output that passes a test was printed, or memory ran out before anything was printed.
   abbrev pub PrintsSuch : (Printed → Type 0) → Result Ending Failure → Type 0
   PrintsSuch P result =
       ((wanted : Printed) × P wanted × Prints wanted result)
       ⊎ ((result ≡ Err failure.OutOfMemory) × (new ≡ old))
 
-  -- the effects of a command on a source that opens; for any other source, the reason is printed
+  -- the effects of a command on a source that opens; for any other source, the command prints the reason
   abbrev pub IfOpens : Option OpenError → (Did : Result Ending Failure → Type 0)
       → Result Ending Failure → Type 0
   IfOpens None Did result = Did result
@@ -92,6 +92,6 @@ module _ {W : Type 0} (contents : W → Option (List ℕ)) (old new : Tally W) w
   Refuses unopened.OutOfMemory result = (result ≡ Err failure.OutOfMemory) × (new ≡ old)
   Refuses fault result = Prints (printed (unopened_text fault) Faulty) result
 
-  -- the command ended with such a failure, and nothing was written
+  -- the command ended with a failure of this kind, and nothing was written
   abbrev pub Fails : (Failure → Type 0) → Outcome → Type 0
   Fails Why ended = IsErrAnd ended Why × (new ≡ old)

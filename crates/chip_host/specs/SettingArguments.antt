@@ -17,23 +17,23 @@ tape_by (Some digits) None = if_ok (decode_of digits.now)
 tape_by None (Some seed) = Some (tape_of seed)
 tape_by None None = Some (0 ∷ [])
 
--- The tape of `--tape HEX` or of `--seed N`, or one zero byte without both. There is no tape if both are
--- given, or if the digits stand for no bytes.
+-- The tape of `--tape HEX` or of `--seed N`, or one zero byte if neither is given. There is no tape if
+-- both are given, or if the digits don't represent bytes.
 abbrev pub tape_asked : SettingArguments → Option (List ℕ)
 tape_asked arguments = tape_by arguments.tape arguments.seed
 
--- the settings, if nothing is wrong with them
+-- the settings, if they have no fault
 abbrev pub if_faultless : Option SetError → SessionSettings → Option SessionSettings
 if_faultless None settings = Some settings
 if_faultless (Some why) settings = None
 
--- the settings with a tape, and with the rest of what the arguments say
+-- the settings with a tape, and with the other values of the arguments
 abbrev pub settings_with : SettingArguments → List ℕ → Option SessionSettings
 settings_with arguments tape =
     option_and_then (if_faultless (spacing_fault arguments.spacing))
     (if_faultless (settings_fault arguments.rate tape)
     (record { rate = arguments.rate; tape = tape; quirks = arguments.quirks; spacing = arguments.spacing }))
 
--- the settings that the arguments ask for; none if their tape is bad
+-- the settings that the arguments ask for; no settings if the tape is bad
 abbrev pub settings_asked : SettingArguments → Option SessionSettings
 settings_asked arguments = option_and_then (settings_with arguments) (tape_asked arguments)

@@ -1,4 +1,4 @@
-//! The endings of the program, and the failures that hinder it.
+//! The endings of commands, and the reasons why commands fail.
 ghost use Rattle.std.specs.Prelude.{◌≡◌};
 ghost use Rattle.clap.specs.Words.{kind_of};
 ghost use Rattle.chip_host.specs.Endings.{ending_status, failure_status, settings_failure, arguments_failure};
@@ -14,17 +14,17 @@ use std::alloc::AllocError;
 use std::{fmt, io, str};
 use thiserror::Error;
 
-/// The ending of a command that nothing hindered.
+/// The ending of a command that doesn't fail.
 #[derive(Clone, Copy)]
 pub enum Ending {
     Done,
-    /// The faults of the source, or the reason why it doesn't open, are printed.
+    /// The command printed the faults of the source, or the reason why the source doesn't open.
     Faulty,
-    /// Memory ran out, and the findings until then are printed.
+    /// Memory ran out, and the command printed its findings until then.
     Short,
 }
 
-/// The code of the reason why a line of a key file is refused. Its text says what was expected of the line.
+/// The code of the reason why a line of a key file is rejected. `Display` states what was expected of the line.
 #[derive(Clone, Copy, Debug)]
 pub struct Code(pub &'static [u8]);
 
@@ -57,7 +57,7 @@ impl fmt::Display for Code {
 }
 
 /// The text of an argument or of a file's name, as messages show it. Control bytes other than the tab are shown as
-/// `\x` and two digits, since a terminal might take them for a command.
+/// `\x` and two digits, because a terminal might interpret them as a command.
 #[derive(Clone, Copy, Debug)]
 pub struct Shown<'a>(pub &'a str);
 
@@ -74,7 +74,7 @@ impl<'a> fmt::Display for Shown<'a> {
     }
 }
 
-/// The reason why a text states no property.
+/// The reason why a text doesn't state a property.
 #[derive(Debug, Drop)]
 pub struct Report(pub Vec<u8>);
 
@@ -84,7 +84,7 @@ impl fmt::Display for Report {
     }
 }
 
-/// The reason why a line of a file of cases is refused.
+/// The reason why a line of a file of cases is rejected.
 #[derive(Clone, Copy, Debug, Error)]
 pub enum TestFault {
     #[error("{0}")]
@@ -101,7 +101,7 @@ pub enum TestFault {
     Tape,
 }
 
-/// The reason why a tape is refused.
+/// The reason why a tape is rejected.
 #[derive(Clone, Copy, Debug, Error)]
 pub enum TapeFault {
     #[error("expected hexadecimal digits without 0x or #, as in --tape 2a07")]
@@ -114,38 +114,38 @@ pub enum TapeFault {
     WithSeed,
 }
 
-/// The reason why a command fails. Its text goes to standard error.
+/// The reason why a command fails. The text of the failure goes to standard error.
 #[derive(Debug, Drop, Error)]
 pub enum Failure<'a> {
     #[error("{0}")]
     Usage(clap::Error),
     #[error("chipbench: bad tape\n")]
     BadTape(TapeFault),
-    /// The text names no stop causes.
+    /// The text isn't a list of stop causes.
     #[error("chipbench: --want takes S1 to S7 separated by commas, not {text}\n", text = Shown(.0))]
     BadCauses(&'a str),
-    /// The text names no keys.
+    /// The text isn't a list of keys.
     #[error("chipbench: --keys-allowed takes 0 to 15, or A to F for 10 to 15, separated by commas, not {text}\n", text = Shown(.0))]
     BadPlayerKeys(&'a str),
-    /// The text names no warnings.
+    /// The text isn't a list of warnings.
     #[error("chipbench: --allow takes W1 to W9 and P1 to P6 separated by commas, not {text}\n", text = Shown(.0))]
     BadWarnings(&'a str),
-    /// The source has no such place.
+    /// The source contains no such place.
     #[error("chipbench: --reach takes a label of the source, or an address in quotes such as '#2A0', not {text}\n", text = Shown(.0))]
     BadPlace(&'a str),
-    /// The text states no property.
+    /// The text doesn't state a property.
     #[error("{0}")]
     BadProperty(Report),
-    /// The line with this number states no property.
+    /// The line with this number doesn't state a property.
     #[error("chipbench: no property in line {0}\n")]
     NoProperty(u32),
-    /// The line with this number of a key file is refused.
+    /// The line with this number of a key file is rejected.
     #[error("chipbench: {name}:{1}: {2}\n", name = Shown(.0))]
     BadKeys(&'a str, usize, Code),
     /// The first line of a trace doesn't name columns.
     #[error("chipbench: {name} is not a trace: {1}\n", name = Shown(.0))]
     BadTrace(&'a str, HeaderError),
-    /// The line with this number of a file of cases is refused.
+    /// The line with this number of a file of cases is rejected.
     #[error("chipbench: {name}:{1}: {2}\n", name = Shown(.0))]
     BadTest(&'a str, usize, TestFault),
     /// The file that the line with this number names can't be read.
@@ -155,7 +155,7 @@ pub enum Failure<'a> {
     NoPage(&'a str),
     #[error("chipbench: cannot read {name}\nreason: {1}\n", name = Shown(.0))]
     CannotRead(&'a str, io::Error),
-    /// The file has more than this many bytes.
+    /// The file contains more than this many bytes.
     #[error("chipbench: cannot read {name}\nreason: it has over {1} bytes\n", name = Shown(.0))]
     TooLong(&'a str, u32),
     #[error("chipbench: cannot write {name}\nreason: {1}\n", name = Shown(.0))]
@@ -221,7 +221,7 @@ impl<'a> From<AllocError> for Failure<'a> {
     }
 }
 
-// Numbers of the command line are in their ranges, so only the tape can be bad.
+// Numbers on the command line are in their ranges, so only the tape can be bad.
 impl<'a> From<SetError> for Failure<'a> {
     ghost from_gives = { λ error failure. failure ≡ settings_failure error };
 

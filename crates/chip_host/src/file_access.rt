@@ -6,19 +6,19 @@ use std::alloc::Global;
 use std::io;
 use std::rt::Files;
 
-/// Files that can be read and written as a whole. Commands need nothing else of `Files`.
+/// Files that can be read and written as a whole. Commands need no other part of `Files`.
 pub trait FileAccess {
-    // A file of this name took these bytes. Only a write that succeeded establishes it.
+    // These bytes were written to a file with this name. Only a successful write proves this.
     ghost wrote: { Self → (name bytes : List ℕ) → Type 0 };
 
-    /// Returns the contents of the file of a name, up to `most` bytes.
+    /// Returns the contents of the file `name`, up to `most` bytes.
     fn read(&self, alloc: Global, name: &str, most: u32) -> io::Result<Vec<u8>>;
 
-    /// Checks that there is a folder of a name. Fails with the reason if none is found.
+    /// Checks that the folder `name` exists. Fails with the reason if no folder is found.
     fn find_folder(&self, name: &str) -> io::Result<()>;
 
-    /// Writes the file of a name atomically. A file with a name in `taken`, where `file_name` gives the name
-    /// of a source, isn't written.
+    /// Writes the file `name` atomically. A file with a name in `taken` isn't written. For a source, `taken`
+    /// contains the name that `file_name` returns.
     fn write(
         &self,
         alloc: Global,
@@ -30,7 +30,7 @@ pub trait FileAccess {
 }
 
 impl<F: Files> FileAccess for F {
-    // No contract says what a file of the system takes.
+    // No contract states which bytes a file of the system receives.
     ghost wrote = { λ files name bytes. Unit {0} };
 
     fn read(&self, alloc: Global, name: &str, most: u32) -> io::Result<Vec<u8>> {

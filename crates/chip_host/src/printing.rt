@@ -17,7 +17,7 @@ pub struct Answer {
 }
 
 impl Answer {
-    /// Returns an answer with a text about a source. The answer is faulty if the source has no image.
+    /// Returns an answer with a text about a source. The ending is `Faulty` if the source has no image.
     pub fn on(source: &Source, text: Vec<u8>) -> Answer
         ensures { printed_by result ≡ printed text.items (ending_with (image_of source.now.lines)) }
     {
@@ -34,7 +34,7 @@ impl Answer {
     }
 }
 
-/// Prints an answer, unless memory ran out for it.
+/// Prints an answer. Fails if memory ran out for the answer.
 pub fn deliver<'a, O: Write>(
     answer: Result<Answer, AllocError>,
     output: &mut Counted<O>,
@@ -60,7 +60,7 @@ pub fn faults(alloc: Global, source: &Source) -> Result<Answer, AllocError>
     })
 }
 
-/// Prints why a source doesn't open. Prints nothing and fails if memory ran out.
+/// Prints why a source doesn't open. If memory ran out, prints nothing and fails.
 pub fn refuse_source<'a, O: Write>(
     error: OpenError,
     output: &mut Counted<O>,
@@ -73,7 +73,7 @@ pub fn refuse_source<'a, O: Write>(
     }
 }
 
-/// Returns why a source doesn't open, as the program prints it. The text is empty if memory ran out.
+/// Returns the reason why a source doesn't open, as the program prints it. The text is empty if memory ran out.
 pub fn unopened_text(error: OpenError) -> &'static [u8]
     ensures { result.now ≡ unopened_text error }
 {

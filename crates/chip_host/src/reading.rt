@@ -20,19 +20,19 @@ use hex::FromHexError;
 use std::alloc::Global;
 use std::io::{Read, Write};
 
-// The name of a source that is read from the standard input.
+// The source name that means standard input.
 const INPUT: &str = "-";
 
-// The number of first bytes of a file that show whether it is an image or a text.
+// The number of bytes at the start of a file that show whether the file is an image or a text.
 const FIRST_BYTES: usize = 64;
 
-// The fewest bytes of a file that is taken for a text.
+// The minimum number of bytes in a file that is taken for a text.
 const LEAST_TEXT: usize = 8;
 
 /// A source of this length or more doesn't open.
 pub const MOST_SOURCE: u32 = SOURCE_BYTES as u32 + 1;
 
-/// Returns the name of the file that a source is read from, or of the standard input.
+/// Returns the name of the file that contains a source, or the name of the standard input.
 pub fn file_name(source: &str) -> &str {
     if source == INPUT {
         STANDARD_INPUT
@@ -55,7 +55,7 @@ pub fn settings_of<'a>(
     Ok(settings.with_spacing(arguments.spacing)?)
 }
 
-// Returns the tape that the arguments ask for. A tape and a seed don't go together.
+// Returns the tape that the arguments ask for. A tape and a seed can't be used together.
 fn tape_bytes<'a>(alloc: Global, arguments: &SettingArguments<'_>) -> Result<Vec<u8>, Failure<'a>>
     ensures ok { IfOk result (λ tape. tape_asked arguments.now ≡ Some tape.items) }
     ensures err { IfErr result (λ failure. (failure ≡ Failure.OutOfMemory)
@@ -74,7 +74,7 @@ fn tape_bytes<'a>(alloc: Global, arguments: &SettingArguments<'_>) -> Result<Vec
     }
 }
 
-/// A file of key events: its name, and its bytes. Without a file there are no bytes.
+/// A file of key events: its name, and its bytes. If there is no file, there are no bytes.
 #[derive(Drop)]
 pub struct KeyFile<'a> {
     pub name: &'a str,
@@ -91,8 +91,8 @@ pub struct AskedRun<'a> {
     pub name: &'a str,
 }
 
-/// Reads the inputs of a run. The settings are judged before a file is read, and the key events are read
-/// before the source.
+/// Reads the inputs of a run. The settings are checked before a file is read, and the key events are
+/// read before the source.
 pub fn read_asked<'a, F: FileAccess, I: Read, E: Write>(
     system: &System<'_, F>,
     arguments: &RunArguments<'a>,
@@ -115,7 +115,7 @@ pub fn read_asked<'a, F: FileAccess, I: Read, E: Write>(
     })
 }
 
-// Reads the file of key events of that name. Without a name there are no events.
+// Reads the file of key events with this name. If there is no name, there are no events.
 fn read_keys<'a, F: FileAccess>(
     system: &System<'_, F>,
     name: Option<&'a str>,
@@ -136,7 +136,7 @@ fn read_keys<'a, F: FileAccess>(
     }
 }
 
-/// Returns the source of that name or, if the name is that of an image, the source that `dis` prints of it.
+/// Returns the source with this name. For the name of an image, returns the source that `dis` prints for it.
 pub fn read_given<'a, F: FileAccess, I: Read, E: Write>(
     system: &System<'_, F>,
     name: &'a str,
@@ -155,7 +155,7 @@ pub fn read_given<'a, F: FileAccess, I: Read, E: Write>(
     as_source(system.alloc, name, is_image, bytes, errors)
 }
 
-/// Says on standard error, if somebody reads it, that a file that is given as an image looks like a source.
+/// Reports on standard error, if somebody reads it, that a file given as an image looks like a source.
 pub fn tell_text<F, E: Write>(system: &System<'_, F>, name: &str, bytes: &[u8], errors: &mut E) {
     if system.host.has_reader && is_text(bytes) {
         let _ = write!(
@@ -167,7 +167,7 @@ pub fn tell_text<F, E: Write>(system: &System<'_, F>, name: &str, bytes: &[u8], 
     }
 }
 
-// Whether a file looks like lines of text, by its length, its first bytes and a line feed.
+// Whether a file looks like lines of text, given its length, its first bytes and whether it contains a line feed.
 fn is_text(bytes: &[u8]) -> bool {
     bytes.len() >= LEAST_TEXT
         && bytes.contains(&b'\n')
@@ -177,8 +177,8 @@ fn is_text(bytes: &[u8]) -> bool {
         ))
 }
 
-/// Returns the bytes themselves or, for an image, the source that `dis` prints of them. If an image was given
-/// as a source, a hint on standard error says so.
+/// Returns the bytes themselves or, for an image, the source that `dis` prints for the image. If an image was
+/// given as a source, standard error gets a hint.
 pub fn as_source<'a, E: Write>(
     alloc: Global,
     name: &'a str,
@@ -195,8 +195,8 @@ pub fn as_source<'a, E: Write>(
         }
         return Ok(source_of_image(alloc, &bytes)?);
     }
-    // A control byte among the first bytes marks an image, unless texts have it or the language takes it for
-    // a blank, as it does 26.
+    // A control byte among the first bytes marks an image. The exceptions are bytes that texts contain,
+    // and byte 26, which the language treats as a blank.
     if bytes.iter().take(FIRST_BYTES).any(|byte| *byte < b' '
         && !matches!(*byte, b'\t' | b'\n' | b'\r' | 0x0c | 0x1a | 0x1b))
     {
@@ -209,7 +209,7 @@ pub fn as_source<'a, E: Write>(
     Ok(bytes)
 }
 
-/// Returns the bytes of a file, or of the standard input if the name is `-`: at most `MOST_SOURCE`.
+/// Returns the bytes of a file, or of standard input if the name is `-`: at most `MOST_SOURCE` bytes.
 pub fn read_source<'a, F: FileAccess, I: Read>(
     system: &System<'_, F>,
     name: &'a str,

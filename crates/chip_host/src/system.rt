@@ -1,4 +1,4 @@
-//! The system that the program runs on: memory, files, and what the program is told about it.
+//! The system that the program runs on: memory, files, and a description of the system.
 ghost use Rattle.std.specs.Prelude.{◌≤◌, length, IfOk, IfErr, OnOk};
 ghost use Rattle.chip_host.specs.Endings.{IsFileWritten, IsUnread, IsUnreadWithin};
 
@@ -10,9 +10,9 @@ use std::io;
 /// A description of the system that the program runs on.
 #[derive(Clone, Copy)]
 pub struct Host {
-    /// The seed with which the names of a session's source are hashed. No answer depends on it.
+    /// The seed for the hashes of the names in a session's source. No answer depends on the seed.
     pub name_seed: u64,
-    /// Whether the output takes colours, as a terminal does.
+    /// Whether the output supports colours, as a terminal does.
     pub takes_color: bool,
     /// Whether somebody reads the messages on standard error as they appear, as at a terminal.
     pub has_reader: bool,
@@ -40,7 +40,7 @@ impl<'s, F: FileAccess> System<'s, F> {
         }
     }
 
-    /// Returns the bytes of a file. Fails if there are more than `most`.
+    /// Returns the bytes of a file. Fails if the file contains more than `most` bytes.
     pub fn read_within<'a>(&self, name: &'a str, most: u32) -> Result<Vec<u8>, Failure<'a>>
         ensures ok { IfOk result (λ bytes. length bytes.items ≤ most) }
         ensures err { IfErr result (IsUnreadWithin most name.entry) }
@@ -52,7 +52,7 @@ impl<'s, F: FileAccess> System<'s, F> {
         Ok(bytes)
     }
 
-    /// Writes a file atomically. A file with one of the names in `taken` stays as it is.
+    /// Writes a file atomically. A file with one of the names in `taken` isn't changed.
     pub fn write<'a>(
         &self,
         taken: &[Option<&str>],

@@ -1,4 +1,4 @@
--- The value that an expression has whatever the names mean.
+-- The value of an expression, whatever the names mean.
 use Rattle.std.proofs.Common.{◌≡◌, ℕ, ℤ, List, [], ◌∷◌, ◌++◌, Result, Ok, Err, Some, None, refl, sym, ◌∙◌}
 use Rattle.std.specs.Result.{result_ok}
 use Rattle.std.specs.FinMap.{get-empty}

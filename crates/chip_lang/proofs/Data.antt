@@ -7,7 +7,7 @@ use Rattle.chip_lang.specs.Tree.{tree_of}
 use Rattle.chip_lang.specs.Value.{◌>>=◌, Symbols}
 use Rattle.chip_lang.specs.Code.{byte_of, word_bytes, datum_of, data_bytes}
 
--- bytes before the bytes of an outcome; a fault stays a fault
+-- an outcome with bytes put before its own; a fault stays a fault
 abbrev pub after : List ℕ → Result (List ℕ) Fault → Result (List ℕ) Fault
 after bytes (Ok rest) = Ok (bytes ++ rest)
 after bytes (Err fault) = Err fault

@@ -1,4 +1,4 @@
--- The digits of a word to the base 16, and which of them a form's operands take.
+-- The digits of a word in base 16, and the digits that a form's operands take.
 use Rattle.std.proofs.Common.{◌≡◌, ℕ, ◌+◌, ◌*◌, ◌-◌, ◌<◌, ◌/◌, ◌%◌, ◌^◌, ◌==◌, ltb, ℤ, pos, negsuc, Bool, true, false, not, ◌&&◌, ◌||◌, if◌then◌else◌, bit_or, List, [], ◌∷◌, Result, Ok, Err, refl, sym, ap, subst, ◌∙◌, arith, inl, inr}
 use Rattle.std.specs.List.{list_all, list_any}
 use Rattle.std.specs.Int.Bits.{or_self, or_zero_l, or_zero_r}
@@ -23,7 +23,7 @@ digit_or bits a b = ap (λ n. n % 16) (or_shr a b bits) ∙ or_mod (a / 2 ^ bits
 same_digits : (a b : ℕ) → a < 65536 → b < 65536 → digit 12 a ≡ digit 12 b → digit 8 a ≡ digit 8 b → digit 4 a ≡ digit 4 b → digit 0 a ≡ digit 0 b → a ≡ b
 same_digits a b h g p q r s = omega arith
 
--- ---- which digits an operand takes
+-- ---- the digits that an operand takes
 
 -- a word's part in an operand's place has the word's digit where the operand takes it, and 0
 -- elsewhere

@@ -10,7 +10,7 @@ use Rattle.chip_lang.specs.Operand.{operand_of}
 use Rattle.chip_lang.specs.Encoding.{field_of, fields_of}
 use Rattle.chip_lang.specs.Value.{◌>>=◌, Symbols}
 
--- the order of two `|` is free
+-- `|` is associative
 or_assoc : (a b c : ℕ) → bit_or (bit_or a b) c ≡ bit_or a (bit_or b c)
 or_assoc a b c =
     same_from_bits _ _ (λ i. omega (arith, bit_at_or (bit_or a b) c i, bit_at_or a b i, bit_at_or a (bit_or b c) i, bit_at_or b c i))
@@ -27,7 +27,7 @@ field_and_more : (word field : ℕ) (r : Result ℕ Fault) → with_fields word 
 field_and_more word field (Ok rest) = ap Ok (sym (or_assoc word field rest))
 field_and_more word field (Err fault) = refl
 
--- one operand more is put into the word
+-- one more operand is put into the word
 pub field_put : (word field : ℕ) (p : Pattern) (o : Operand) (ps : List Pattern) (os : List Operand) (symbols : Symbols) (whole : Result ℕ Fault) →
     with_operands word (p ∷ ps) (o ∷ os) symbols ≡ whole → field_of p (operand_of o) symbols ≡ Ok field →
     with_operands (bit_or word field) ps os symbols ≡ whole

@@ -1,4 +1,4 @@
--- The instruction of a line: its form is that of its name and operands, and its registers are V0 to VF.
+-- The instruction of a line: its form is the form of its name and operands, and its registers are V0 to VF.
 use Rattle.std.proofs.Common.{◌≡◌, ◌≢◌, ℕ, List, codes, Option, Ok, subst}
 use Rattle.chip_lang.specs.Encoding.{word_of_form}
 use Rattle.chip_lang.specs.Table.{Row}

@@ -1,4 +1,4 @@
--- The last value that items put is the value of the tree that they leave.
+-- The last value that items put is the value of the tree that they build.
 use Rattle.std.proofs.Common.{◌≡◌, ℕ, ℤ, pos, List, [], ◌∷◌, ◌++◌, Result, Ok, Err, length, arith, refl, sym, ap, ◌∙◌, ◌⊎◌, inl, inr, SFits, w32, to_z, of_z}
 use Rattle.std.proofs.lemmas.Int.{to_z-of_z}
 use Rattle.std.specs.List.{fold}

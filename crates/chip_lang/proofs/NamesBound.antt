@@ -1,4 +1,4 @@
--- How many names a line uses: each token has a byte of its own, and few of them are names.
+-- A bound on the names of a line: each token has at least one byte, and few tokens are names.
 use Rattle.std.proofs.Common.{◌≡◌, ℕ, zero, suc, ◌+◌, ◌*◌, ◌-◌, ◌≤◌, ◌==◌, if◌then◌else◌, List, [], ◌∷◌, length, arith}
 use Rattle.std.proofs.lemmas.Bool.{cond_both}
 use Rattle.std.proofs.lemmas.List.{length-map}
@@ -9,7 +9,7 @@ use Rattle.chip_lang.specs.Line.{lexeme_of, lexemes_of, Reading, reading_of}
 use Rattle.chip_lang.specs.Uses.{names_used}
 use Rattle.chip_lang.proofs.ReadBody.{tokens_used_few}
 
--- each token has a byte of its own
+-- each token has at least one byte
 tokens_few : (place skip : ℕ) (bytes : List ℕ) → length (tokens_from place skip bytes) ≤ length bytes
 tokens_few place skip [] = omega arith
 tokens_few place (suc skip) (b ∷ bytes) = omega (arith, tokens_few (place + 1) skip bytes)

@@ -57,7 +57,7 @@ names_of-push names items i =
 
 -- ---- items that stay numbered
 
--- an item without a name more
+-- one more item, which has no name
 numbered_push : (names : List (List ℕ)) (items : List Item) (i : Item) → IsAmongFirst 0 i → name_of_item names i ≡ [] → AreNumbered names items →
     AreNumbered names (items ++ i ∷ [])
 numbered_push names items i p none h = record {
@@ -74,7 +74,7 @@ numbered_unary names items sign h = numbered_push names items (Unary sign) tt re
 pub numbered_binary : (names : List (List ℕ)) (items : List Item) (sign : Operator) → AreNumbered names items → AreNumbered names (items ++ Binary sign ∷ [])
 numbered_binary names items sign h = numbered_push names items (Binary sign) tt refl h
 
--- a name more, and its item
+-- one more name, and the item that has it
 pub numbered_name : (names : List (List ℕ)) (items : List Item) (n : List ℕ) → AreNumbered names items →
     AreNumbered (names ++ n ∷ []) (items ++ Name (length names) ∷ [])
 numbered_name names items n h = record {
@@ -95,7 +95,7 @@ stack_of_name names items n h =
     ∙ ap (λ x. name x ∷ stack_of (names ++ n ∷ []) items) (get_or-append_seam names n [] [])
     ∙ ap (λ stack. name n ∷ stack) (fold-more names n [] items h.within)
 
--- another item in the place of the last one, with the same name if there is one
+-- a different item in place of the last one, with the same name if there is one
 pub numbered_last : (names : List (List ℕ)) (items : List Item) (i j : Item) → (IsAmongFirst (length names) i → IsAmongFirst (length names) j) →
     name_of_item names j ≡ name_of_item names i → AreNumbered names (items ++ i ∷ []) → AreNumbered names (items ++ j ∷ [])
 numbered_last names items i j p same h =

@@ -80,7 +80,7 @@ kinds (p ∷ ps) (o ∷ os) h =
     let rest = kinds ps os both.1 in
     cc
 
--- two forms have one name and operands of the same kinds
+-- two forms have the same name and operands of the same kinds
 abbrev alike : Row → Row → Bool
 alike r s = bytes_eq r.name s.name && bytes_eq (map kind r.patterns) (map kind s.patterns)
 
@@ -104,7 +104,7 @@ not_both : (b : Bool) → not b ≡ true → b ≡ true → ⊥
 not_both true h e = false≢true h
 not_both false h e = false≢true e
 
--- after a form that fits, none that isn't alike fits
+-- if a form fits, no later form that isn't alike fits
 none_fits : (r : Row) (rs : List Row) (n : List ℕ) (os : List Operand) → fits r n os ≡ true → list_all (λ s. not (alike r s)) rs ≡ true → filter (λ s. fits s n os) rs ≡ []
 none_fits r [] n os f h = refl
 none_fits r (s ∷ rs) n os f h =

@@ -64,7 +64,7 @@ word_of (LoadRegisters x) = of_byte 15 x 0x65
 word_of (StoreFlags x) = of_byte 15 x 0x75
 word_of (LoadFlags x) = of_byte 15 x 0x85
 
--- ---- the word of each entry is its instruction's
+-- ---- the word of each entry is the word of its instruction
 
 abbrev fields_at : (x y n : ℕ) → Fields
 fields_at x y n = record { x = x; y = y; n = n; byte = 16 * y + n; address = 256 * x + (16 * y + n) }
@@ -92,7 +92,7 @@ fields_own w x y n p q r =
 word_own : (w top x y n : ℕ) → w < 65536 → digit 12 w ≡ top → digit 8 w ≡ x → digit 4 w ≡ y → digit 0 w ≡ n → of_registers top x y n ≡ w
 word_own w top x y n h p q r s = omega arith
 
--- the word of a word's instruction is that word
+-- the word of the instruction that a word decodes to is that same word
 word_is : (w : ℕ) (instr : Instr) → decode_of w ≡ Some instr → word_of instr ≡ w
 unfolding decode_of entry_of
 word_is w instr h =

@@ -11,7 +11,7 @@ use Rattle.chip_lang.proofs.Scan.{to_end}
 abbrev pub before_comma : List Lexeme → ℕ
 before_comma ts = prefix_len (λ t. not (is_sign_of 44 t)) ts
 
--- the pieces up to a comma and after it, where the comma is the first
+-- the pieces before and after a comma, if it is the first comma
 abbrev Cut : List Lexeme → Type 0
 Cut ts = (n : ℕ) → n ≡ before_comma ts → n < length ts → pieces ts ≡ take n ts ∷ pieces (drop (suc n) ts)
 
@@ -52,7 +52,7 @@ no_comma ts n e h = whole ts (omega arith)
 pub ruleset piece_steps = (cut_at_comma, no_comma, to_end)
 
 module _ {A B : Type 0} where
-  -- the values that were found, before those that are left to find
+  -- the values found already, followed by those still to be found
   abbrev pub after : (A → B) → List A → Option (List B) → Option (List B)
   after v xs None = None
   after v xs (Some ys) = Some (map v xs ++ ys)

@@ -1,5 +1,5 @@
--- The reading of a line's tokens. It uses few names, because tokens that aren't names separate
--- them, and its instruction has the form of its name and operands, with registers from V0 to VF.
+-- The reading of a line's tokens uses few names, because other tokens separate the names. Its
+-- instruction has the form of its name and operands, with registers from V0 to VF.
 use Rattle.std.proofs.Common.{◌≡◌, ℕ, suc, ◌+◌, ◌*◌, ◌≤◌, Bool, true, false, not, ◌==◌, ◌&&◌, ◌||◌, ltb, if◌then◌else◌, is_some, List, [], ◌∷◌, length, map, Option, Some, None, refl, subst, arith}
 use Rattle.std.specs.Prelude.{option_and_then, option_map}
 use Rattle.std.specs.List.{flat_map, list_all}
@@ -27,7 +27,7 @@ use Rattle.chip_lang.proofs.Sound.{only_expressions}
 
 -- ---- expressions
 
--- there is a sign between each two names of an expression
+-- a sign separates neighboring names of an expression
 names_in_few : {l : ℕ} {ts : List Lexeme} {e : Tree} → Parses l ts e → 2 * length (names_in e) ≤ suc (length ts)
 names_in_few a_number = omega arith
 names_in_few (a_name h) = omega arith
@@ -42,7 +42,7 @@ names_in_few (with_operator c {left = left} {right = right} {a = a} {b = b} p q 
     rw e (omega (arith, first, second, length-append left (Sign c ∷ right), length-append (names_in a) (names_in b)))
 names_in_few (stronger h) = names_in_few h
 
--- an expression that is found, if any, has so few names and passes a test
+-- an expression that is found, if any, has few enough names and passes a test
 abbrev FewIn : {A : Type 0} → (A → List (List ℕ)) → (A → Bool) → (room : ℕ) → Option A → Type 0
 FewIn names test room None = Unit {0}
 FewIn names test room (Some x) = (2 * length (names x) ≤ room) × (test x ≡ true)
@@ -112,7 +112,7 @@ module _ {A : Type 0} (names : A → List (List ℕ)) (test : A → Bool) where
       FewInAll (suc (length ts)) (all_some (map parse (pieces ts)))
   pieces_few parse few ts = subst (λ room. FewInAll room (all_some (map parse (pieces ts)))) (room_of_pieces ts) (all_few parse few (pieces ts))
 
--- an operand, and all operands, of few names and with registers of the machine
+-- an operand, and all operands, with few enough names and with registers V0 to VF
 abbrev OperandFew : (room : ℕ) → Option Operand → Type 0
 OperandFew room o = FewIn names_in_operand is_of_machine room o
 
@@ -145,18 +145,18 @@ values_few ts = pieces_few names_in any_tree expression_of expression_few ts
 
 -- ---- statements
 
--- a form is that of some name and these operands
+-- a form is the form of some name and these operands
 pub record IsFormed (form : Row) (operands : List Operand) : Type 0 where
   pub name : List ℕ
   pub fits : form_of name operands ≡ Some form
   pub registers : list_all is_of_machine operands ≡ true
 
--- an instruction is formed, and other statements are free
+-- an instruction has its form; any other statement qualifies
 abbrev pub Formed : Body → Type 0
 Formed (code form operands) = IsFormed form operands
 Formed body = Unit {0}
 
--- a statement, if it is one, has so few names, and is formed
+-- a statement, if there is one, has few enough names and is formed
 abbrev Few : (room : ℕ) → Option Body → Type 0
 Few room None = Unit {0}
 Few room (Some body) = (2 * length (names_in_body body) ≤ room) × Formed body
@@ -253,7 +253,7 @@ abbrev pub FormedReading : Reading → Type 0
 FormedReading (bad fault) = Unit {0}
 FormedReading (read label body) = Formed body
 
--- a reading has so few names, and is formed
+-- a reading has few enough names and is formed
 abbrev pub IsFew : (room : ℕ) → Reading → Type 0
 IsFew room r = (2 * length (names_used r) ≤ room) × FormedReading r
 

@@ -78,7 +78,7 @@ find_form_is : (rows : List Row) (name : List ℕ) (operands : List Operand) →
 find_form_is [] name operands = refl
 find_form_is (r ∷ rows) name operands = rw (find_form_is rows name operands) refl
 
--- ---- the instruction that the form says
+-- ---- the instruction of the form
 
 said_by : (r : Row) (w : ℕ) (o : Option Entry) → entry_of w ≡ o → sign_of o ≡ Some (r.name, r.base) → DecodesTo r w
 unfolding decode_of

@@ -18,14 +18,14 @@ use Rattle.chip_lang.specs.Line.{Body, db, dw, code, Reading, bad, read}
 use Rattle.chip_lang.specs.Code.{data_bytes, byte_of, word_bytes, own_bytes, coded, code_of}
 use Rattle.chip_lang.specs.Uses.{names_in, names_in_operand, names_in_body, has_same_value, agree_on}
 
--- values that the test finds equal
+-- values that the test finds equal are equal
 same_option : (a b : Option ℤ) → option_eq int_eq a b ≡ true → a ≡ b
 same_option None None h = refl
 same_option None (Some y) h = cc
 same_option (Some x) None h = cc
 same_option (Some x) (Some y) h = ap Some ((Decides-int_eq x y).0 h)
 
--- the two parts of a list that passes a test
+-- each part of a list that passes a test passes it
 parts : {A : Type 0} (p : A → Bool) (xs ys : List A) → list_all p (xs ++ ys) ≡ true → (list_all p xs ≡ true) × (list_all p ys ≡ true)
 parts p xs ys h = and_parts _ _ (sym (list_all-append p xs ys) ∙ h)
 

@@ -1,4 +1,4 @@
--- The form that a word is shown in, with the operands that are shown, has that word.
+-- The form in which a word is shown, with the operands in the word, encodes to that word.
 use Rattle.std.proofs.Common.{◌≡◌, ℕ, ◌%◌, Bool, true, List, [], ◌∷◌, map, Option, Some, None, option_map, Ok, refl, sym, ap, ◌∙◌, arith}
 use Rattle.std.specs.List.{find, slice_get, position_or_len}
 use Rattle.std.proofs.lemmas.Bool.{and_from, eqb-true, lt-ltb}
@@ -44,12 +44,12 @@ found_passes test xs x h =
     let at : slice_get xs k ≡ Some x = sym (find_at test xs) ∙ h in
     ap test (sym (get_or_from_slice_get xs k x x at)) ∙ passes_at_first test xs x (slice_get_within xs k x at)
 
--- an entry that a table has for a word gives it
+-- the entry that the table has for a word gives that word
 pub entry_gives : (w : ℕ) (e : Entry) → entry_of w ≡ Some e → gives e.form w ≡ true
 unfolding entry_of
 entry_gives w e h = found_passes (λ e. gives e.form w) table e h
 
--- a result made of an option is made of the value in it
+-- a result that `option_map` makes is made of the value in the option
 pub made_of : {A B : Type 0} (make : A → B) (o : Option A) (y : B) → option_map make o ≡ Some y → (x : A) × (o ≡ Some x) × (make x ≡ y)
 made_of make None y h = cc
 made_of make (Some x) y h = (x, refl, cc)

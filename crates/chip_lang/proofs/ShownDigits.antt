@@ -4,7 +4,7 @@ use Rattle.std.proofs.lemmas.Bool.{and_parts, cases_lt, eqb-true}
 use Rattle.chip_lang.specs.Show.{hex_digit, two_hex_digits, four_hex_digits, register_digit}
 use Rattle.chip_lang.specs.declared.source_text.TheConstants.{DIGIT_PAIRS, REGISTER_DIGITS}
 
--- true if all numbers below a number pass a test; this computes
+-- true if all numbers below a number pass a test, by computation
 abbrev all_below : (ℕ → Bool) → ℕ → Bool
 all_below test zero = true
 all_below test (suc n) = test n && all_below test n

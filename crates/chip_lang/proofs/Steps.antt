@@ -12,7 +12,7 @@ use Rattle.chip_lang.proofs.Scan.{to_end}
 use Rattle.chip_lang.proofs.Complete.{no_operator}
 use Rattle.chip_lang.specs.computed.Parse.{Parsed, front_level, front_prefix, front_operator, after, below, on_found, closed, prefixed, with_right, parse, further}
 
--- a level: what the stronger level finds, and the operators after it
+-- a level: the expression that the stronger level finds, and the operators after it
 pub level_step : (n k : ℕ) (ts rest : List Lexeme) (left : Tree) (y : Parsed) → 1 ≤ k → 9 * length ts + suc k < n → length rest < length ts →
     ((m : ℕ) → 9 * length ts + k < m → Some (left, rest) ≡ parse m k ts) →
     ((m : ℕ) → 9 * length rest + 8 < m → y ≡ further m (suc k) left rest) →
@@ -77,7 +77,7 @@ raised (suc d) k level ts rest left is low short plain found n b =
     (λ m q. further_end m (suc under) left rest (omega arith) (plain (suc under) (omega arith) (omega arith)))
     ∙ ap (λ l. parse n l ts) next
 
--- the level of the operator in front, after what a stronger level finds
+-- the level of the operator at the front, after the expression that a stronger level finds
 pub onward : (done next : ℕ) (ts rest : List Lexeme) (left : Tree) (y : Parsed) → 1 ≤ done → done < next → next ≡ front_level rest → length rest < length ts →
     ((m : ℕ) → 9 * length ts + done < m → Some (left, rest) ≡ parse m done ts) →
     ((m : ℕ) → 9 * length rest + 8 < m → y ≡ further m next left rest) →
@@ -90,7 +90,7 @@ onward done next ts rest left y low less front short found more n b =
     (λ m q. more m q ∙ ap (λ l. further m l left rest) (sym is))
     ∙ ap (λ l. parse n l ts) is
 
--- no operator of a level that is left stands in front
+-- no operator of a remaining level is at the front
 pub settled : (done level next : ℕ) (ts rest : List Lexeme) (left : Tree) → 1 ≤ done → done ≤ level → next ≡ front_level rest → length rest < length ts →
     ((l : ℕ) → done < l → l ≤ level → next ≡ l → ⊥) →
     ((m : ℕ) → 9 * length ts + done < m → Some (left, rest) ≡ parse m done ts) →
@@ -146,8 +146,8 @@ further_at n level k sign left ts rest p y is high same l q front found more =
 
 -- ---- operators one after another
 
--- the result after a left side and the tokens after it is the result after a first left side and
--- more tokens
+-- the result after a left side and the tokens after it equals the result after an earlier left side
+-- and more tokens
 abbrev pub Leads : ℕ → Tree → List Lexeme → Tree → List Lexeme → Type 0
 Leads level first ts left rest =
     (y : Parsed) → ((m : ℕ) → 9 * length rest + 8 < m → y ≡ further m level left rest) → (n : ℕ) → 9 * length ts + 8 < n → y ≡ further n level first ts

@@ -18,18 +18,18 @@ byte_of n = n ∷ []
 abbrev pub word_bytes : ℕ → List ℕ
 word_bytes w = w / 256 ∷ w % 256 ∷ []
 
--- a value of DB or DW: a negative one modulo the limit, and a fault if it is out of range
+-- the value of an expression in DB or DW, a negative value modulo the limit; out of range, a fault
 abbrev pub datum_of : ℕ → Tree → Symbols → Result ℕ Fault
 datum_of limit e symbols = value e symbols >>= signed_below limit
 
--- the bytes of some values from left to right, each value in its range
+-- the bytes of values from left to right, or the fault of the first value that has one
 abbrev pub data_bytes : ℕ → (ℕ → List ℕ) → List Tree → Symbols → Result (List ℕ) Fault
 data_bytes limit shown [] symbols = Ok []
 data_bytes limit shown (e ∷ es) symbols =
     datum_of limit e symbols >>= λ n. data_bytes limit shown es symbols
     >>= λ rest. Ok (shown n ++ rest)
 
--- the bytes that a statement has of its own, without padding
+-- a statement's own bytes, without padding
 unfoldable pub own_bytes : Body → Symbols → Result (List ℕ) Fault
 own_bytes (db es) symbols = data_bytes 256 byte_of es symbols
 own_bytes (dw es) symbols = data_bytes 65536 word_bytes es symbols
@@ -38,7 +38,7 @@ own_bytes (code form operands) symbols =
     word_of_form form operands symbols >>= λ w. Ok (word_bytes w)
 own_bytes body symbols = Ok []
 
--- the number of bytes that a statement has of its own if it has no fault
+-- the number of a statement's own bytes if it has no fault
 abbrev pub own_length : Body → ℕ
 own_length (db es) = length es
 own_length (dw es) = 2 * length es
@@ -50,12 +50,12 @@ abbrev pub coded : Result (List ℕ) Fault → Coded
 coded (Ok bytes) = Bytes bytes
 coded (Err fault) = Faulty fault
 
--- the code of a line, which is the reading fault if the line can't be read
+-- the code of a line; if the line can't be read, its reading fault
 abbrev pub code_of : Reading → Symbols → Coded
 code_of (bad fault) symbols = Faulty fault
 code_of (read label body) symbols = coded (own_bytes body symbols)
 
--- the number of bytes that a line has of its own if it has no fault
+-- the number of a line's own bytes if it has no fault
 abbrev pub code_length : Reading → ℕ
 code_length (bad fault) = 0
 code_length (read label body) = own_length body

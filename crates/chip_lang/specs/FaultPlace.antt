@@ -20,7 +20,7 @@ use Rattle.chip_lang.specs.computed.Tokens.{tokens_of}
 
 -- ---- tokens are counted from 0
 
--- the token with an index; if the line has no such token, the end of its last one
+-- the token with an index; if the line has no such token, the end of its last token
 abbrev pub at : ℕ → Place
 at index = record { first = index; wide = false }
 
@@ -59,8 +59,8 @@ abbrev pub operands_at : (count : ℕ) → Shape → ℕ
 operands_at count (definition w value) = count - length value
 operands_at count (statement label ts) = count - length ts + 1
 
--- the index of the name that the line gives a value: the name of a definition, the label, or the
--- word after DEFINE
+-- the index of the name that the line defines: the name of a definition, the label, or the word
+-- after DEFINE
 abbrev pub name_at : (count : ℕ) → Shape → ℕ
 name_at count (definition w value) = 0
 name_at count (statement (Some l) ts) = 0
@@ -153,7 +153,7 @@ end_of None = 0
 end_of (Some t) = t.end
 
 -- the part of a line from the start of the first token to its end or, if `wide`, to the end of the
--- line's last token; without a first token, the empty part at the end of the last one
+-- line's last token; if there is no first token, the empty part after the last token
 abbrev pub span_from : Option Token → (wide : Bool) (last : ℕ) → Span
 span_from None wide last = record { start = last; end = last }
 span_from (Some t) true last = record { start = t.start; end = last }
@@ -187,6 +187,6 @@ abbrev pub name_in : Lexeme → Option (List ℕ)
 name_in (Word w) = if is_reserved w then None else Some w
 name_in t = None
 
--- the name that a token of a line is, in upper case: a word that isn't reserved
+-- the name that a token of a line spells, in upper case: a word that isn't reserved
 abbrev pub name_of_token : (line : List ℕ) → Token → Option (List ℕ)
 name_of_token line t = name_in (lexeme_of line t)

@@ -10,13 +10,13 @@ use Rattle.chip_lang.specs.declared.expr.Operator.TheVariants.{ShiftLeft, ShiftR
 use Rattle.chip_lang.specs.Tree.{Tree, number, name, unary, binary}
 use Rattle.chip_lang.specs.Reserved.{is_reserved}
 
--- the sign before an operand that a byte stands for: + - ~
+-- the prefix that a byte represents: + - ~
 abbrev pub prefix_of : ℕ → Option Prefix
 prefix_of c =
     if c == 43 then Some Plus
     else (if c == 45 then Some Minus else (if c == 126 then Some Not else None))
 
--- the sign between operands that a byte stands for: < > * / + - & | ^ and the backslash
+-- the operator that a byte represents: < > * / + - & | ^ and the backslash
 abbrev pub operator_of : ℕ → Option Operator
 operator_of c =
     if c == 60 then Some ShiftLeft else (if c == 62 then Some ShiftRight
@@ -38,8 +38,8 @@ level_of Or = 6
 level_of Xor = 7
 
 -- The tokens are an expression of a level: an atom at level 0, signs before an operand at level 1,
--- operators at levels 2 to 7. The left side of an operator is of the operator's own level and its
--- right side of a stronger level, so operators group to the left.
+-- and operators at levels 2 to 7. The left side of an operator has the operator's own level and its
+-- right side has a stronger level, so operators group to the left.
 pub data Parses : ℕ → List Lexeme → Tree → Type 0 where
   a_number : {z : ℤ} → Parses 0 (Number z ∷ []) (number z)
   a_name : {w : List ℕ} → is_reserved w ≡ false → Parses 0 (Word w ∷ []) (name w)

@@ -1,4 +1,4 @@
--- The definitions of the assembler's language, which a reader has to believe.
+-- The definitions of the assembler's language. They are part of the trusted base.
 --     Table      the table of instructions: their source forms and their words
 --     Decoding   the instruction of a word
 --     Token      the token at a place of a line
@@ -17,8 +17,8 @@
 --     FaultPlace       the tokens at which a fault lies
 --     SeenLine   lines as contracts see them, without their places in memory
 --     Examples   worked examples
---     computed   functions that find the tokens of a line, and the expression that tokens are; laws
---                say that they agree with Scan and with Grammar
+--     computed   functions that find the tokens of a line, and the expression that tokens form;
+--                laws state that they agree with Scan and with Grammar
 --     inner      definitions for private functions; no public clause cites them, and a reader may
 --                skip them
 pub mod Code

@@ -29,8 +29,7 @@ use Rattle.chip_lang.specs.Reserved.{is_reserved, is_mnemonic}
 abbrev pub upper : ℕ → ℕ
 upper b = if is_between 97 122 b then b - 32 else b
 
--- the contents of a token: those of a word are in upper case, those of a text are without the
--- quotes
+-- the contents of a token: a word in upper case, or a text without its quotes
 abbrev pub lexeme_of_kind : List ℕ → Kind → Lexeme
 lexeme_of_kind bytes word_kind = Word (map upper bytes)
 lexeme_of_kind bytes (number_kind z) = Number z
@@ -44,8 +43,8 @@ lexeme_of line t = lexeme_of_kind (slice_range line t.start t.end) t.kind
 abbrev pub lexemes_of : List ℕ → List Lexeme
 lexemes_of line = map (lexeme_of line) (tokens_of line)
 
--- true for an empty line and for a line that begins with a semicolon: the line is blank or only a
--- comment
+-- true for an empty line and for a line that begins with a semicolon: such a line is blank or only
+-- a comment
 abbrev pub shows_nothing : List ℕ → Bool
 shows_nothing [] = true
 shows_nothing (b ∷ bytes) = b == 59
@@ -92,7 +91,7 @@ shape_of [] = statement None []
 shape_of (Word w ∷ rest) = after_word w rest
 shape_of (t ∷ rest) = statement None (t ∷ rest)
 
--- ---- names that a line gives a value
+-- ---- names that a line defines
 
 -- true if a name can't be defined: it is reserved or has more than NAME_BYTES bytes
 abbrev pub is_bad_name : List ℕ → Bool
@@ -124,7 +123,7 @@ abbrev pub by_label : Option (List ℕ) → List (List ℕ)
 by_label None = []
 by_label (Some l) = l ∷ []
 
--- the names that a line gives a value
+-- the names that a line defines
 abbrev pub names_of : Shape → List (List ℕ)
 names_of (definition w value) = w ∷ []
 names_of (statement label ts) = by_label label ++ by_define (front_directive ts) ts
@@ -161,7 +160,7 @@ pieces (t ∷ ts) = if is_sign_of 44 t then [] ∷ pieces ts else with_first t (
     with_first t [] = (t ∷ []) ∷ []
     with_first t (p ∷ ps) = (t ∷ p) ∷ ps
 
--- all values, if each of them is there
+-- all values, if none of them is missing
 abbrev pub all_some : {A : Type 0} → List (Option A) → Option (List A)
 all_some [] = Some []
 all_some (None ∷ os) = None
@@ -172,7 +171,7 @@ abbrev pub pieces_in : Option (List Lexeme) → List (List Lexeme)
 pieces_in None = []
 pieces_in (Some ts) = pieces ts
 
--- the operand that a word is: a register, or else a part of the machine
+-- the operand that a word names: a register, or else a part of the machine
 abbrev pub named : Option ℕ → Option Special → Option Operand
 named (Some x) s = Some (register x)
 named None (Some s) = Some (special s)
@@ -196,7 +195,7 @@ or_expression None (Some e) = Some (expression e)
 abbrev pub operand_of_tokens : List Lexeme → Option Operand
 operand_of_tokens ts = or_expression (part_of_machine ts) (expression_of ts)
 
--- the operands between commas; an empty list without tokens
+-- the operands between commas; an empty list if there are no tokens
 abbrev pub operands_of : List Lexeme → Option (List Operand)
 operands_of [] = Some []
 operands_of (t ∷ ts) = all_some (map operand_of_tokens (pieces (t ∷ ts)))
@@ -315,7 +314,7 @@ is_skipped (Some Used) = true
 is_skipped (Some Xref) = true
 is_skipped d = false
 
--- true if at some token more parentheses are open than can be; unmatched closing ones count below 0
+-- true if more than OPEN_PARENTHESES parentheses are open at some token; the count can be negative
 abbrev pub too_deep : (opened closed : ℕ) → List Lexeme → Bool
 too_deep opened closed [] = false
 too_deep opened closed (t ∷ ts) =
@@ -325,12 +324,12 @@ too_deep opened closed (t ∷ ts) =
 
 -- ---- the reading
 
--- a fault, if it holds
+-- a fault, if its condition holds
 abbrev pub fault_if : Bool → Fault → Option Fault
 fault_if holds fault = if holds then Some fault else None
 
--- The faults of a reading in their order, each if it holds. WrongOperands comes again after them,
--- for a statement that fits nothing.
+-- The faults of a reading in order, each if its condition holds. WrongOperands comes again after
+-- them, for operands that don't fit.
 abbrev pub faults_in_order : List Lexeme → Shape → List (Option Fault)
 faults_in_order ts shape =
     bad_token ts
@@ -341,14 +340,13 @@ faults_in_order ts shape =
     ∷ fault_if (too_deep 0 0 ts && not (is_skipped (front_directive (statement_of shape)))) TooDeep
     ∷ []
 
--- the first fault that holds
+-- the first fault in the list
 abbrev pub first_that_holds : List (Option Fault) → Option Fault
 first_that_holds [] = None
 first_that_holds (None ∷ faults) = first_that_holds faults
 first_that_holds (Some fault ∷ faults) = Some fault
 
--- the reading of a line: the name that it gives a value, if any, and its statement; or its first
--- fault
+-- the reading of a line: the name that it defines, if any, and its statement; or its first fault
 pub data Reading : Type 0 where
   bad : Fault → Reading
   read : (name : Option (List ℕ)) (body : Body) → Reading
@@ -357,7 +355,7 @@ abbrev pub first_name : List (List ℕ) → Option (List ℕ)
 first_name [] = None
 first_name (n ∷ ns) = Some n
 
--- the first fault, or else the meaning of the line, or else the fault that nothing fits
+-- the first fault, or else the meaning of the line; if it has no meaning, WrongOperands
 abbrev pub fault_or_body : Option Fault → (name : Option (List ℕ)) → Option Body → Reading
 fault_or_body (Some fault) name body = bad fault
 fault_or_body None name (Some body) = read name body
@@ -371,6 +369,6 @@ reading_of_shape ts shape =
 abbrev pub reading_of_tokens : List Lexeme → Reading
 reading_of_tokens ts = reading_of_shape ts (shape_of ts)
 
--- the reading of a line, which has exactly one
+-- the reading of a line; each line has exactly one
 unfoldable pub reading_of : List ℕ → Reading
 reading_of line = reading_of_tokens (lexemes_of line)

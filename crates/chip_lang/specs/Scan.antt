@@ -25,7 +25,7 @@ pub record IsOver (line : List ℕ) (place : ℕ) : Type 0 where
   pub blank : AllBlank line place stop
   pub comment : stop < length line → slice_index line stop ≡ 59
 
--- the list has all tokens from a place on
+-- the list contains all tokens from a place on
 abbrev pub AreTokens : List ℕ → (place : ℕ) → List Token → Type 0
 AreTokens line place [] = IsOver line place
 AreTokens line place (t ∷ ts) =

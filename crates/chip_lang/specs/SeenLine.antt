@@ -9,7 +9,7 @@ use Rattle.chip_lang.specs.Operand.{operand_of}
 use Rattle.chip_lang.specs.Form.{row_of_form}
 use Rattle.chip_lang.specs.Line.{Body, empty, equ, org, ds, db, dw, da, code, define, ifdef, ifund, else_line, endif, end_line, align, options, used, xref, Reading, bad, read}
 
--- the statement that a value of the program stands for
+-- the statement that a value of the program represents
 abbrev pub seen_body : Line_body → Body
 seen_body Empty = empty
 seen_body (Equ e) = equ (tree_of e)
@@ -30,11 +30,11 @@ seen_body Options = options
 seen_body Used = used
 seen_body Xref = xref
 
--- the reading that a value of the program stands for
+-- the reading that a value of the program represents
 abbrev pub seen_line : Line → Reading
 seen_line (Bad fault) = bad fault
 seen_line (Read label body) = read label (seen_body body)
 
--- the statement that an optional value of the program stands for, if there is one
+-- the statement that an optional value of the program represents, if there is one
 abbrev pub seen_statement : Option Line_body → Option Body
 seen_statement body = option_map seen_body body

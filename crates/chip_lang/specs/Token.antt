@@ -1,5 +1,5 @@
--- The kind and the length of the token at a place of a line (Chipper manual; what is not a token is
--- chosen by this project).
+-- The kind and the length of the token at a place of a line (Chipper manual; which bytes are not a
+-- token is chosen by this project).
 use Rattle.std.specs.Prelude.{ℕ, ◌+◌, ◌*◌, ◌-◌, ◌==◌, ◌||◌, ◌&&◌, not, Bool, if◌then◌else◌, nat_le, nat_lt, List, [], ◌∷◌, length, fold, take, pos}
 use Rattle.std.specs.List.{list_all, prefix_len}
 use Rattle.chip_lang.specs.declared.fault.Fault.TheVariants.{BadCharacter, UnfinishedString, NumberTooLarge}
@@ -60,11 +60,11 @@ is_digit_of base b =
     if base == 2 then is_binary b
     else (if base == 8 then is_octal b else (if base == 10 then is_digit b else is_hexadecimal b))
 
--- the number that one more digit makes of a number
+-- the number that a number becomes when a digit is appended
 abbrev pub with_digit : ℕ → ℕ → ℕ → ℕ
 with_digit base n digit = base * n + digit_value digit
 
--- the number that some digits are in a base
+-- the number that digits form in a base
 abbrev pub number_of : ℕ → List ℕ → ℕ
 number_of base digits = fold (with_digit base) 0 digits
 
@@ -72,7 +72,7 @@ number_of base digits = fold (with_digit base) 0 digits
 abbrev pub kind_of_number : ℕ → Kind
 kind_of_number n = if nat_le n 2147483647 then Number (pos n) else Bad NumberTooLarge
 
--- the number of at least one digit, if all are digits of the base; otherwise a fault
+-- the number that digits form, if there are any and all are digits of the base; otherwise a fault
 unfoldable pub kind_of_digits : ℕ → List ℕ → Kind
 kind_of_digits base [] = Bad BadCharacter
 kind_of_digits base (d ∷ ds) =
@@ -80,8 +80,8 @@ kind_of_digits base (d ∷ ds) =
     then kind_of_number (number_of base (d ∷ ds))
     else Bad BadCharacter
 
--- the kind and the length of a text that begins with a quote, given the bytes after that quote: the
--- text goes up to the next quote of the same kind
+-- the kind and the length of a text that begins with a quote, given the bytes after that quote; the
+-- text extends to the next quote of the same kind
 unfoldable pub text_at : ℕ → List ℕ → Kind × ℕ
 text_at quote bytes =
     let inside = prefix_len (λ b. not (b == quote)) bytes in

@@ -9,7 +9,7 @@ use Rattle.chip_lang.specs.Operand.{Operand, register, special, expression}
 use Rattle.chip_lang.specs.Value.{Symbols, no_names, value, value_of_name}
 use Rattle.chip_lang.specs.Line.{Body, equ, org, ds, db, dw, code, Reading, bad, read}
 
--- the names in an expression, left to right; a name that occurs twice is there twice
+-- the names in an expression, left to right; a name that occurs twice is listed twice
 abbrev pub names_in : Tree → List (List ℕ)
 names_in (number z) = []
 names_in (name n) = n ∷ []
@@ -40,11 +40,11 @@ abbrev pub if_nameless : List (List ℕ) → Option ℤ → Option ℤ
 if_nameless [] value = value
 if_nameless (n ∷ names) value = None
 
--- the value that an expression has whatever the names mean; none if it has a name or a fault
+-- the value of an expression, whatever the names mean; none if it contains a name or has a fault
 unfoldable pub constant : Tree → Option ℤ
 constant e = if_nameless (names_in e) (result_ok (value e no_names))
 
--- the name that a label, EQU, = or DEFINE gives
+-- the name that a label, EQU, = or DEFINE defines
 abbrev pub name_defined : Reading → Option (List ℕ)
 name_defined (bad fault) = None
 name_defined (read label body) = label

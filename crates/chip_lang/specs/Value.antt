@@ -71,7 +71,7 @@ abbrev pub or_fault : Option ℤ → Fault → Result ℤ Fault
 or_fault (Some z) f = Ok z
 or_fault None f = Err f
 
--- goes on with the value of an outcome, or keeps its fault
+-- continues with the value of an outcome, or keeps its fault
 infixl 10 ◌>>=◌
 abbrev pub ◌>>=◌ : {A B : Type 0} → Result A Fault → (A → Result B Fault) → Result B Fault
 (Ok x) >>= go = go x

@@ -25,14 +25,14 @@ use std::alloc::{AllocError, Global};
 #[derive(Drop)]
 pub enum Coded {
     /// The line's own bytes, without padding: those of an instruction, DB, DW or DA. Any other line
-    /// has none.
+    /// has no bytes.
     Bytes(ShortBytes),
     /// The line's fault in the second pass, or its reading fault.
     Faulty(Fault),
 }
 
-/// Encodes a line under a table of names. Adds 1 to `encoded`. Fails only if memory runs out, and
-/// counts the line even then.
+/// Encodes a line under a table of names. Adds 1 to `encoded`, even if the call fails. Fails only
+/// if memory runs out.
 pub fn encode<N: Names>(
     alloc: Global,
     meter: &mut Meter,
@@ -80,8 +80,7 @@ pub fn encode_into<N: Names>(
     }
 }
 
-/// The number of bytes that a line has of its own, without padding; 0 for a line with a reading
-/// fault.
+/// The number of a line's own bytes, without padding; 0 for a line with a reading fault.
 fn code_length(line: &Line) -> usize
     ensures { result ≡ code_length (seen_line line.now) }
 {
@@ -98,8 +97,8 @@ fn code_length(line: &Line) -> usize
 }
 
 /// Writes the code of a line to the start of `bytes` and returns the number of its bytes, or
-/// returns the line's fault. The contents of the bytes after the code have no meaning, and with a
-/// fault no byte has.
+/// returns the line's fault. The caller can't rely on the bytes after the code or, after a fault,
+/// on any byte.
 fn write_line<N: Names>(line: &Line, names: &N, bytes: &mut [u8]) -> Result<usize, Fault>
     requires room { code_length (seen_line line.now) ≤ length bytes.old }
     ensures code { coded (written bytes.new result)
@@ -112,8 +111,8 @@ fn write_line<N: Names>(line: &Line, names: &N, bytes: &mut [u8]) -> Result<usiz
     }
 }
 
-/// Writes the code of a statement and returns the number of its bytes, or returns the statement's
-/// fault.
+/// Writes the code of a statement and returns the number of bytes written, or returns the
+/// statement's fault.
 #[tactic(auto, unfolding(crate::specs::Code::own_bytes))]
 fn write_body<N: Names>(body: &Body, names: &N, bytes: &mut [u8]) -> Result<usize, Fault>
     requires room { own_length (seen_body body.now) ≤ length bytes.old }
@@ -243,8 +242,8 @@ fn number_below(limit: u16, value: i32) -> Result<u16, Fault>
     }
 }
 
-/// A value from -`limit` / 2 to `limit` - 1 as a byte or a word, a negative one modulo the limit.
-/// Any other value is a fault.
+/// A value from -`limit` / 2 to `limit` - 1 as a byte or a word. A negative value is taken modulo
+/// the limit. Any other value is a fault.
 fn signed_below(limit: u32, value: i32) -> Result<u16, Fault>
     requires low { 0 < limit }
     requires high { limit ≤ 65536 }

@@ -31,8 +31,8 @@ pub struct Span {
     pub end: usize,
 }
 
-/// The tokens at which a fault lies: the token with the index `first`, or, if `wide`, that token
-/// and all after it. An index past the last token means the place after that token.
+/// The tokens at which a fault lies: the token with the index `first` and, if `wide`, also all
+/// tokens after it. An index past the last token means the place after the last token.
 #[derive(Clone, Copy)]
 pub(crate) struct Place {
     first: usize,
@@ -53,9 +53,9 @@ impl Place {
     }
 }
 
-/// Returns the part of a line at which a fault lies: the bytes of the tokens that the table
-/// `place_of_fault` gives. If no token is at fault, for example because an operand is missing,
-/// returns the empty part after the last token.
+/// Returns the part of a line at which a fault lies: the bytes of the tokens listed for the fault
+/// in the table `place_of_fault`. If no token is at fault, for example because an operand is
+/// missing, returns the empty part after the last token.
 ///
 /// # Errors
 ///
@@ -140,7 +140,7 @@ fn end_of(token: Option<&Token>) -> usize
     }
 }
 
-/// The tokens at which a fault lies, as the table in `specs/FaultPlace.antt` says.
+/// The tokens at which a fault lies, as the table in `specs/FaultPlace.antt` states.
 fn place_of_fault(alloc: Global, fault: Fault, tokens: &[Lexeme]) -> Result<Place, AllocError>
     ensures { IfOk result (λ place. place ≡ place_of_fault fault tokens.now) }
 {
@@ -346,7 +346,7 @@ fn misfit_from(first: usize, count: usize, before: usize) -> Place
 }
 
 /// The number of tokens before the first operand that doesn't fit, counting a comma after each
-/// operand. More than the number of all tokens if each operand fits.
+/// operand. If each operand fits, the result exceeds the number of tokens.
 #[tactic(auto, using(crate::proofs::Misfit::joined_pieces))]
 fn before_misfit(alloc: Global, values: bool, operands: &[Lexeme]) -> Result<usize, AllocError>
     ensures value { IfOk result (λ before. before ≡ before_misfit values (pieces operands.now)) }
@@ -365,7 +365,7 @@ fn before_misfit(alloc: Global, values: bool, operands: &[Lexeme]) -> Result<usi
     Ok(before)
 }
 
-/// Whether the tokens are an expression, if `values`, or else an operand.
+/// Whether the tokens form an expression (if `values` is true) or an operand (otherwise).
 fn is_fit(alloc: Global, values: bool, piece: &[Lexeme]) -> Result<bool, AllocError>
     ensures { IfOk result (λ fit. fit ≡ is_fit values piece.now) }
 {
@@ -376,8 +376,8 @@ fn is_fit(alloc: Global, values: bool, piece: &[Lexeme]) -> Result<bool, AllocEr
     }
 }
 
-/// Returns the name that a token of a line is, in upper case; none if the token isn't a word or is
-/// a reserved one.
+/// Returns the name that a token of a line spells, in upper case; none if the token isn't a word or
+/// is a reserved word.
 ///
 /// # Errors
 ///

@@ -44,7 +44,7 @@ fn operator_of(sign: u8) -> Option<Operator>
     }
 }
 
-// A level above that of each operator.
+// A level above the level of every operator.
 const NO_LEVEL: u32 = 8;
 
 #[inline(always)]
@@ -61,7 +61,7 @@ fn level_of(operator: Operator) -> u32
     }
 }
 
-/// The first token as a sign before an operand, if it is one.
+/// The first token as a prefix of an operand, if it is one.
 pub fn prefix_in_front(tokens: &[Lexeme]) -> Option<Prefix>
     ensures value { result ≡ front_prefix tokens.now }
     ensures some { IfSome result (λ _. 0 < length tokens.now) }
@@ -110,7 +110,7 @@ pub fn closed(tokens: &[Lexeme]) -> Option<&[Lexeme]>
     }
 }
 
-/// The number of a text of one byte, which is that byte; none for any other text.
+/// The value of a text of one byte, which is that byte; none for any other text.
 pub fn text_number(text: &[u8]) -> Option<i32>
     ensures { (rest : List Lexeme)
         → option_map (λ value. (number value, rest)) result ≡ one_byte text.now rest }

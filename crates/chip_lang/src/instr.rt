@@ -8,7 +8,7 @@ ghost use Rattle.chip_lang.specs.declared.instr.Instr.{Instr};
 
 use crate::number::{Addr, Nibble, Reg};
 
-/// An instruction, with one variant for each row of the table.
+/// An instruction. Each row of the table has a variant, but both forms of a shift share one.
 #[derive(Clone, Copy)]
 pub enum Instr {
     /// `SCD n`: scroll down.
@@ -190,7 +190,7 @@ fn with_registers(top: u16, x: Reg, y: Reg, n: u8) -> u16
     top * 4096 + u16::from(x.number()) * 256 + u16::from(y.number()) * 16 + u16::from(n)
 }
 
-/// The instruction that a word decodes to; none if it decodes to no instruction.
+/// The instruction that a word decodes to; none if the word isn't an instruction.
 #[inline(always)]
 #[tactic(auto, using(crate::proofs::Decoding::decode_by_digits))]
 pub fn decode(w: u16) -> Option<Instr>

@@ -30,7 +30,7 @@ pub(crate) enum Keyword {
 #[derive(Clone, Copy)]
 pub(crate) struct Named(pub(crate) &'static [u8], pub(crate) Keyword);
 
-// All words, grouped by their last letters from A to W. No word ends in any other byte.
+// All reserved words except registers, grouped by last letter, from A to W. No word ends in another byte.
 const WORDS: &[&[Named]] = &[
     &[Named(b"DA", Keyword::Directive(Directive::Da))],
     &[
@@ -114,8 +114,8 @@ const WORDS: &[&[Named]] = &[
     ],
 ];
 
-/// The words that end in a byte. `words` has a group for each last letter from A on. A byte below
-/// `A`, in which no word ends, is taken for `A`.
+/// The words that end in the byte `last`. `words` contains a group for each last letter, starting
+/// with A. A byte below `A` is treated as `A`; no word ends in such a byte.
 #[tactic(auto, using(crate::proofs::Keywords::rows_at))]
 fn words_ending_in(last: u8, words: &[&'static [Named]]) -> &'static [Named]
     ensures { map row_of result.now
@@ -127,7 +127,7 @@ fn words_ending_in(last: u8, words: &[&'static [Named]]) -> &'static [Named]
     }
 }
 
-/// The meaning that the rows give a word, if the word is among them.
+/// The meaning of a word in these rows; none if the rows don't contain the word.
 fn find_in(rows: &[Named], word: &[u8]) -> Option<Keyword>
     ensures { option_map meaning_of result ≡ find_word (map row_of rows.now) word.now }
 {
@@ -159,8 +159,8 @@ pub fn directive_of(word: &[u8]) -> Option<Directive>
     }
 }
 
-/// The directive that a word in upper case names, if any, and the forms of the instruction that it
-/// names. A word that names no instruction has no forms.
+/// The directive that a word in upper case names, if any, and the forms of the instruction that the
+/// word names. The list of forms is empty if the word names no instruction.
 pub(crate) fn front_named(word: &[u8]) -> (Option<Directive>, &'static [Form])
     ensures directive { result.0 ≡ directive_of word.now }
     ensures forms { map row_of_form result.1.now ≡ forms_of word.now }
@@ -183,7 +183,7 @@ pub fn special_of(word: &[u8]) -> Option<Special>
     }
 }
 
-/// Whether some form has this name, which is in upper case.
+/// Whether any form has this name, which is in upper case.
 pub(crate) fn is_mnemonic(word: &[u8]) -> bool
     ensures { result ≡ is_mnemonic word.now }
 {

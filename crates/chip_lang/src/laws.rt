@@ -25,7 +25,7 @@ ghost use Rattle.chip_lang.specs.Value.{Symbols, value, value_of_name};
 ghost use Rattle.chip_lang.specs.Code.{code_of};
 ghost use Rattle.chip_lang.specs.Uses.{names_in, names_used, has_same_value, agree_on};
 
-/// A list of tokens is at most one expression, and `expression_of` computes it.
+/// A list of tokens forms at most one expression, and `expression_of` computes that expression.
 #[tactic(auto, using(crate::proofs::Complete::expression_laws))]
 pub fn one_expression()
     ensures one { (ts : List Lexeme) (a b : Tree) → IsExpression ts a → IsExpression ts b → a ≡ b }
@@ -61,8 +61,8 @@ pub fn same_code()
         → code_of r S ≡ code_of r T }
 {}
 
-/// An expression that has a value keeps it when names are added to the table, that is, if each name
-/// with a value keeps that value.
+/// An expression that has a value keeps it when names are added to the table, provided that each
+/// name with a value keeps that value.
 #[tactic(auto, using(crate::proofs::KeptValue::kept_value))]
 pub fn kept_value()
     ensures { (e : Tree) (S T : Symbols) (v : ℤ)
@@ -70,7 +70,7 @@ pub fn kept_value()
         → value e S ≡ Ok v → value e T ≡ Ok v }
 {}
 
-/// A line uses at most half as many names as it has bytes, counting repeated names each time: a
+/// A line uses at most half as many names as it has bytes, counting each occurrence of a name: a
 /// line of 200 bytes uses at most 100.
 #[tactic(auto, using(crate::proofs::NamesBound::names_bound))]
 pub fn names_bound()
@@ -84,8 +84,8 @@ pub fn one_form()
         → length (filter (λ form. fits form name operands) forms) ≤ 1 }
 {}
 
-/// If a word is shown in a form, that form with the operands in the word has this word under any
-/// names. The operands that a form's patterns take from any word fit that form.
+/// If a word is shown in a form, that form and the operands in the word encode to the same word,
+/// whatever the names mean. The operands that a form's patterns take from any word fit that form.
 pub fn shown_form()
     ensures word { (w : ℕ) (form : Row) (symbols : Symbols) → form_shown w ≡ Some form
         → word_of_form form (map (operand_in w) form.patterns) symbols ≡ Ok w }

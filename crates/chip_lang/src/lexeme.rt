@@ -18,7 +18,7 @@ pub enum Lexeme {
     Text(ShortBytes),
     /// A sign, by its byte.
     Sign(u8),
-    /// Not a token, with its fault.
+    /// Bytes that are not a token, with their fault.
     Bad(Fault),
 }
 
@@ -33,11 +33,11 @@ impl Drop for Lexeme {
     }
 }
 
-// The list of tokens of a line with at least this many bytes starts with room for as many tokens.
+// For a line of at least this many bytes, the list of tokens reserves room for as many tokens.
 const LONG_LINE_BYTES: usize = 64;
 
-/// The number of tokens to take room for in a line of so many bytes, enough for most lines. A line
-/// that is longer than most may hold a long expression.
+/// The number of tokens to reserve room for in a line of this many bytes; enough for most lines. An
+/// unusually long line may contain a long expression.
 fn usual_tokens(bytes: usize) -> usize {
     if bytes < LONG_LINE_BYTES {
         USUAL_TOKENS

@@ -1,10 +1,10 @@
-//! The language of the Chipper assembler: words of instructions, tokens, expressions, the reading
-//! of a line, and its code.
+//! The language of the Chipper assembler: instructions and their words, tokens, expressions, the
+//! reading of a line, and the code of a line.
 //!
-//! [`read_line`] returns the reading of a text, of which there is exactly one. [`encode`] returns
-//! the code of a reading under a table of [`Names`], and [`encode_into`] writes that code into a
-//! buffer. [`word`], [`decode`] and [`show`] convert between instructions, words and source text.
-//! The files in `specs/` define the result of each function.
+//! [`read_line`] returns the only reading of a line's text. [`encode`] returns the code of a
+//! reading under a table of [`Names`], and [`encode_into`] writes that code into a buffer.
+//! [`word`], [`decode`] and [`show`] convert between instructions, words and source text. The files
+//! in `specs/` define the result of each function.
 #![tactic(auto)]
 
 pub mod bytes;

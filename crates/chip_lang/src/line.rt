@@ -71,7 +71,7 @@ pub enum Line {
     Bad(Fault),
     /// A line without a reading fault.
     Read {
-        /// The name that a label, EQU, `=` or DEFINE gives, in upper case.
+        /// The name that a label, EQU, `=` or DEFINE defines, in upper case.
         label: Option<Bytes>,
         /// The statement.
         body: Body,
@@ -88,9 +88,9 @@ impl Drop for Line {
     }
 }
 
-/// Reads the text of a line, which may be any bytes. Each text has exactly one reading, which uses
-/// at most half as many names as the text has bytes. Adds 1 to `parsed`. Fails only if memory runs
-/// out, and counts the line even then.
+/// Reads the text of a line, which may be any bytes. Each text has exactly one reading. A reading
+/// uses at most half as many names as the text has bytes. Adds 1 to `parsed`, even if the call
+/// fails. Fails only if memory runs out.
 #[tactic(auto, unfolding(crate::specs::Line::reading_of), using(crate::proofs::NamesBound::names_bound_of))]
 #[inline]
 pub fn read_line(alloc: Global, meter: &mut Meter, text: &[u8]) -> Result<Line, AllocError>
@@ -110,7 +110,7 @@ pub fn read_line(alloc: Global, meter: &mut Meter, text: &[u8]) -> Result<Line, 
 }
 
 /// Reads a line that is empty or begins with `;`: adds 1 to `parsed` and returns true, because such
-/// a line says nothing. For any other line, returns false and changes nothing.
+/// a line is blank or only a comment. For any other line, returns false and changes nothing.
 #[tactic(auto, unfolding(crate::specs::Line::reading_of))]
 #[inline]
 pub fn read_nothing(meter: &mut Meter, text: &[u8]) -> bool
@@ -142,7 +142,7 @@ fn is_plainly_empty(text: &[u8]) -> bool
     matches!(text, [] | [b';', ..])
 }
 
-/// The reading of a line, with tokens or without. Fails only if memory runs out.
+/// The reading of a line, whether or not it has tokens. Fails only if memory runs out.
 #[inline(never)]
 fn reading_of_text(alloc: Global, text: &[u8]) -> Result<Line, AllocError>
     ensures { IfOk result (λ line. seen_line line ≡ reading_of_tokens (lexemes_of text.now)) }
@@ -167,8 +167,8 @@ fn reading_of_tokens(alloc: Global, tokens: &[Lexeme]) -> Result<Line, AllocErro
     }
 }
 
-/// The first fault of a reading, except the fault of a statement that fits nothing. `front` is the
-/// directive at the front of the statement, and `forms` has the forms of an instruction there.
+/// The first fault of a reading, except the fault of operands that don't fit. `front` is the directive at the front of
+/// the statement, and `forms` contains the forms of the instruction there.
 fn first_fault(
     tokens: &[Lexeme],
     shape: &Shape,
@@ -209,7 +209,7 @@ fn begins_with_no_word(statement: &[Lexeme]) -> bool
 }
 
 /// Whether a statement begins with a word that is neither a directive nor an instruction. `front`
-/// is the directive there, and `forms` has the forms of an instruction there.
+/// is the directive there, and `forms` contains the forms of the instruction there.
 #[tactic(auto, using(crate::proofs::NamedForms::unknown_word))]
 fn begins_with_unknown_word(front: Option<Directive>, forms: &[Form], statement: &[Lexeme]) -> bool
     requires word { begins_with_no_word statement.now ≡ false }
@@ -244,8 +244,8 @@ fn bad_token(tokens: &[Lexeme]) -> Option<Fault>
     None
 }
 
-/// Whether at some token the number of parentheses opened so far exceeds the number closed by more
-/// than `OPEN_PARENTHESES`.
+/// Whether, at some token, the number of parentheses opened so far exceeds the number closed so far
+/// by more than `OPEN_PARENTHESES`.
 #[tactic(auto, using(crate::proofs::FewTokens::not_deep))]
 fn is_too_deep(tokens: &[Lexeme]) -> bool
     ensures { result ≡ too_deep 0 0 tokens.now }

@@ -15,7 +15,7 @@ use crate::short_bytes::ShortBytes;
 use std::marker::Model;
 use std::slice;
 
-/// The name that a label, EQU, `=` or DEFINE gives, in upper case. None for a line with a reading
+/// The name that a label, EQU, `=` or DEFINE defines, in upper case. None for a line with a reading
 /// fault.
 pub fn defines(line: &Line) -> Option<&[u8]>
     ensures { option_copied result ≡ name_defined (seen_line line.now) }
@@ -30,7 +30,7 @@ pub fn defines(line: &Line) -> Option<&[u8]>
 }
 
 /// The names in the expressions of a line, left to right. A name that occurs twice is returned
-/// twice. Going through all of them takes time linear in the length of the line.
+/// twice. Iterating over all names takes time linear in the length of the line.
 pub fn used_names(line: &Line) -> UsedNames<'_>
     ensures { result ≡ names_used (seen_line line.now) }
 {
@@ -64,7 +64,7 @@ pub fn uses(line: &Line, place: usize) -> Option<&[u8]>
     names.next()
 }
 
-/// The names in the expressions of a line that are still left, left to right.
+/// The names in a line's expressions that `next` hasn't returned yet, left to right.
 #[derive(Drop)]
 pub struct UsedNames<'a> {
     names: &'a [ShortBytes],
@@ -97,7 +97,7 @@ impl<'a> UsedNames<'a> {
         }
     }
 
-    /// Returns the next name, which is then no longer left; none if no name is left.
+    /// Returns the next name and removes it from the list; none if no name is left.
     #[tactic(auto, using(crate::proofs::NamesUsed::names_left))]
     pub fn next(&mut self) -> Option<&'a [u8]>
         ensures next { option_copied result ≡ slice_get self.old 0 }
@@ -121,7 +121,7 @@ impl<'a> UsedNames<'a> {
 }
 
 /// The first name in a list of expressions, the names after it in the same expression, and the
-/// expressions after that one. None if there is no name.
+/// expressions after that expression. None if the list contains no name.
 #[tactic(auto, using(crate::proofs::NamesUsed::names_left))]
 fn name_in_each(exprs: &[Expr]) -> Option<(&[u8], &[ShortBytes], &[Expr])>
     ensures { MatchOption result (flat_map names_in (map tree_of exprs.now) ≡ [])
@@ -139,7 +139,7 @@ fn name_in_each(exprs: &[Expr]) -> Option<(&[u8], &[ShortBytes], &[Expr])>
 }
 
 /// The first name in a list of operands, the names after it in the same operand, and the operands
-/// after that one. None if there is no name.
+/// after that operand. None if the list contains no name.
 #[tactic(auto, using(crate::proofs::NamesUsed::names_left))]
 fn name_in_operands(operands: &[Operand]) -> Option<(&[u8], &[ShortBytes], &[Operand])>
     ensures { MatchOption result
@@ -160,7 +160,7 @@ fn name_in_operands(operands: &[Operand]) -> Option<(&[u8], &[ShortBytes], &[Ope
     None
 }
 
-/// The first name in an expression, and the names after it. None if there is no name.
+/// The first name in an expression, and the names after it. None if the expression contains no name.
 fn name_in(expr: &Expr) -> Option<(&[u8], &[ShortBytes])>
     ensures { MatchOption result (names_in (tree_of expr.now) ≡ [])
         (λ found. names_in (tree_of expr.now) ≡ found.0.now ∷ found.1.now) }

@@ -15,7 +15,7 @@ use crate::lexeme::{Lexeme, is_sign_of, is_the};
 use crate::parse::parse_expression;
 use std::alloc::{AllocError, Global};
 
-/// The number of tokens before the first comma; of all tokens if there is no comma.
+/// The number of tokens before the first comma, or of all tokens if there is no comma.
 fn piece_length(tokens: &[Lexeme]) -> usize
     ensures value { result ≡ prefix_len (λ t. not (is_sign_of 44 t)) tokens.now }
     ensures within { result ≤ length tokens.now }
@@ -28,7 +28,7 @@ fn piece_length(tokens: &[Lexeme]) -> usize
     tokens.len()
 }
 
-/// The number of pieces, given the tokens after the comma of the first piece, if it has one.
+/// The number of pieces, given the tokens after the first comma if there is a comma.
 fn piece_count(more: Option<&[Lexeme]>) -> usize {
     match more {
         Some(tokens) => tokens
@@ -43,13 +43,13 @@ fn piece_count(more: Option<&[Lexeme]>) -> usize {
 // No instruction takes more operands than this, so most lines need no more room.
 const USUAL_OPERANDS: usize = 3;
 
-/// The number of operands in that many tokens, given a comma between each two, but at most
+/// The number of operands in this many tokens if each operand is one token, but at most
 /// `USUAL_OPERANDS`.
 fn usual_room(tokens: usize) -> usize {
     (tokens / 2).saturating_add(1).min(USUAL_OPERANDS)
 }
 
-/// The tokens before the first comma, and those after it if there is one.
+/// The tokens before the first comma and, if there is a comma, the tokens after it.
 #[tactic(auto, using(crate::proofs::Pieces::piece_steps))]
 pub(crate) fn first_piece(tokens: &[Lexeme]) -> (&[Lexeme], Option<&[Lexeme]>)
     ensures { pieces tokens.now ≡ result.0.now ∷ pieces_in (option_copied result.1) }
@@ -62,8 +62,8 @@ pub(crate) fn first_piece(tokens: &[Lexeme]) -> (&[Lexeme], Option<&[Lexeme]>)
     }
 }
 
-/// The expressions between commas; none if some piece isn't an expression. Fails only if memory
-/// runs out.
+/// The expressions between commas; none if any piece isn't an expression. Fails only if memory runs
+/// out.
 #[tactic(auto, using(crate::proofs::Pieces::value_steps))]
 pub(crate) fn values_of(alloc: Global, tokens: &[Lexeme]) -> Result<Option<Vec<Expr>>, AllocError>
     ensures { IfOk result (λ found. option_map (λ values. map tree_of values.items) found
@@ -85,8 +85,8 @@ pub(crate) fn values_of(alloc: Global, tokens: &[Lexeme]) -> Result<Option<Vec<E
     Ok(Some(values))
 }
 
-/// The operands between commas; none if some piece isn't an operand. An empty list of tokens is an
-/// empty list of operands. Fails only if memory runs out.
+/// The operands between commas; none if any piece isn't an operand. An empty list of tokens
+/// contains no operands. Fails only if memory runs out.
 #[tactic(auto, using(crate::proofs::Pieces::value_steps))]
 pub(crate) fn operands_of(
     alloc: Global,
@@ -111,7 +111,7 @@ pub(crate) fn operands_of(
     Ok(Some(operands))
 }
 
-/// The operand that the tokens are; none if they aren't an operand. Fails only if memory runs out.
+/// The operand that the tokens form; none if they form no operand. Fails only if memory runs out.
 #[inline(always)]
 pub(crate) fn operand_of(alloc: Global, tokens: &[Lexeme]) -> Result<Option<Operand>, AllocError>
     ensures { IfOk result (λ found. option_map operand_of found ≡ operand_of_tokens tokens.now) }
@@ -125,8 +125,8 @@ pub(crate) fn operand_of(alloc: Global, tokens: &[Lexeme]) -> Result<Option<Oper
     }
 }
 
-/// The register, word for a part of the machine, or `[I]` that the tokens are; none for other
-/// tokens.
+/// The register, the word for a part of the machine, or the `[I]` that the tokens form; none for
+/// other tokens.
 #[inline(always)]
 fn part_of_machine(tokens: &[Lexeme]) -> Option<Operand>
     ensures { option_map operand_of result ≡ part_of_machine tokens.now }

@@ -16,11 +16,11 @@ use crate::lexeme::Lexeme;
 use crate::postfix::Builder;
 use std::alloc::{AllocError, Global};
 
-/// The tokens after an expression, which the builder then has on top. None if there is no
+/// The tokens after a parsed expression, which is on top of the builder. None if there is no
 /// expression; the contents of the builder then have no meaning.
 type Found<'a> = Option<&'a [Lexeme]>;
 
-/// The expression that the tokens are; none if they aren't an expression. Fails only if memory runs
+/// The expression that the tokens form; none if they form no expression. Fails only if memory runs
 /// out.
 pub fn parse_expression(alloc: Global, tokens: &[Lexeme]) -> Result<Option<Expr>, AllocError>
     ensures value { IfOk result (λ found. seen_whole found ≡ expression_of tokens.now) }
@@ -42,13 +42,13 @@ pub fn parse_expression(alloc: Global, tokens: &[Lexeme]) -> Result<Option<Expr>
     }
 }
 
-/// The number of items in most expressions of so many tokens: one for each operand, given a sign
-/// between every two.
+/// The number of items in most expressions of this many tokens: one for each operand, if each
+/// operand is one token.
 fn usual_items(tokens: usize) -> usize {
     (tokens / 2).saturating_add(1)
 }
 
-/// The expression that one token is; none if it isn't an expression. Most expressions are one
+/// The expression that one token forms; none if it forms no expression. Most expressions have one
 /// token.
 #[tactic(auto, using(crate::proofs::OneToken::expression_of_one))]
 fn expression_of_token(alloc: Global, token: &Lexeme) -> Result<Option<Expr>, AllocError>
@@ -62,8 +62,8 @@ fn expression_of_token(alloc: Global, token: &Lexeme) -> Result<Option<Expr>, Al
     }
 }
 
-/// Parses an expression of a level, and skips each level that has no operator at the front of the
-/// tokens.
+/// Parses an expression of a level. Skips each level that has no operator at the front of the
+/// remaining tokens.
 #[cycle(parser)]
 fn parse_level<'a>(
     builder: &mut Builder,
@@ -143,8 +143,8 @@ fn parse_atom<'a>(builder: &mut Builder, tokens: &'a [Lexeme]) -> Result<Found<'
     }
 }
 
-/// Appends the expression that one token is and returns true. Returns false if the token isn't an
-/// expression; the contents of the builder then have no meaning.
+/// Appends the expression that one token forms and returns true. Returns false if the token forms
+/// no expression; the contents of the builder then have no meaning.
 fn push_operand(builder: &mut Builder, token: &Lexeme) -> Result<bool, AllocError>
     ensures value { IfOk result
         (λ found. (if found then Some (top builder.new) else None) ≡ atom_of token.now) }
@@ -169,8 +169,7 @@ fn push_operand(builder: &mut Builder, token: &Lexeme) -> Result<bool, AllocErro
     Ok(true)
 }
 
-/// Parses the operators of a level and their right sides, after a left side that the builder has on
-/// top.
+/// Parses the operators of a level and their right sides. The left side is on top of the builder.
 #[cycle(parser)]
 fn parse_further<'a>(
     builder: &mut Builder,

@@ -10,8 +10,8 @@ use crate::short_bytes::ShortBytes;
 use std::alloc::{AllocError, Global};
 use std::marker::Model;
 
-/// A part of an expression. The names are kept in a list beside the items, and an item has the
-/// number of a name in that list.
+/// A part of an expression. The names are stored in a list beside the items, and an item refers to
+/// a name by its number in that list.
 #[derive(Clone, Copy)]
 pub(crate) enum Item {
     /// A number.
@@ -25,8 +25,8 @@ pub(crate) enum Item {
     /// The sign between an operand and this number. The items before this one end with that
     /// operand.
     WithNumber(Operator, i32),
-    /// The sign between an operand and the name of this number. The items before this one end with
-    /// that operand.
+    /// The sign between an operand and the name with this number. The items before this one end
+    /// with that operand.
     WithName(Operator, usize),
 }
 
@@ -57,7 +57,7 @@ fn push_item(items: &mut Vec<Item>, item: Item) -> Result<(), AllocError>
     Ok(())
 }
 
-/// Appends a name. Most expressions with a name have only one, so the first name takes exact room.
+/// Appends a name. Most expressions with a name have only one, so the first name reserves room for one.
 fn add_name(names: &mut Vec<ShortBytes>, name: ShortBytes) -> Result<(), AllocError>
     ensures ok { OnOk result (names.new.items ≡ names.old.items ++ name ∷ []) }
     ensures err { OnErr result (names.new.items ≡ names.old.items) }
@@ -69,8 +69,8 @@ fn add_name(names: &mut Vec<ShortBytes>, name: ShortBytes) -> Result<(), AllocEr
     Ok(())
 }
 
-/// Items in postfix order, with operands before their sign, and their names in upper case, left to
-/// right.
+/// Items in postfix order, in which operands come before their sign, and their names in upper case,
+/// left to right.
 #[derive(Drop)]
 pub(crate) struct Parts {
     items: Vec<Item>,
@@ -78,7 +78,7 @@ pub(crate) struct Parts {
 }
 
 /// An expression of several tokens, which contracts see as a tree. Few expressions have more than
-/// one token, so the parts are in a box and take no room in the others.
+/// one token, so the parts are boxed to keep the other expressions small.
 #[derive(Drop)]
 pub struct Postfix {
     parts: Box<Parts>,
@@ -109,8 +109,8 @@ impl Postfix {
     }
 }
 
-/// The items of an expression that is being read. Contracts see them as the stack of trees that
-/// they leave.
+/// The items of an expression that is being parsed. Contracts see them as the stack of trees that
+/// the items build.
 #[derive(Drop)]
 pub(crate) struct Builder {
     alloc: Global,
@@ -134,7 +134,7 @@ impl Model for Builder {
 }
 
 impl Builder {
-    /// A builder without items, and with room for so many. Fails only if memory runs out.
+    /// An empty builder with room for this many items. Fails only if memory runs out.
     pub fn new(alloc: Global, room: usize) -> Result<Builder, AllocError>
         ensures { IfOk result (λ builder. builder ≡ []) }
     {
@@ -196,8 +196,8 @@ impl Builder {
         Ok(())
     }
 
-    /// The expression that all items form, in no more room than they take. Fails only if memory
-    /// runs out.
+    /// The expression that all items form, stored without spare capacity. Fails only if memory runs
+    /// out.
     pub fn finish(self) -> Result<Postfix, AllocError>
         requires { popped self ≡ [] }
         ensures { IfOk result (λ postfix. postfix ≡ top self) }

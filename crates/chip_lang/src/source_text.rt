@@ -32,9 +32,9 @@ const DIGIT_PAIRS: [u8; 512] = *b"000102030405060708090a0b0c0d0e0f\
     e0e1e2e3e4e5e6e7e8e9eaebecedeeef\
     f0f1f2f3f4f5f6f7f8f9fafbfcfdfeff";
 
-/// The source text of a word: registers as `V0` to `VF`, a byte as `#kk`, an address as `#nnn`, a
-/// nibble in decimal. The text of a word that isn't an instruction is `DW #wwww`. Reading the text
-/// as a line and encoding it gives the word. Fails only if memory runs out.
+/// The source text of a word: registers as `V0` to `VF`, a byte as `#kk`, an address as `#nnn`, and
+/// a nibble in decimal. The text of a word that isn't an instruction is `DW #wwww`. Reading the
+/// text as a line and encoding that line returns the same word. Fails only if memory runs out.
 pub fn show(alloc: Global, word: u16) -> Result<String, AllocError>
     ensures text { IfOk result (λ text. string_bytes text ≡ show_of word) }
 {
@@ -46,8 +46,8 @@ pub fn show(alloc: Global, word: u16) -> Result<String, AllocError>
     Ok(text)
 }
 
-/// Appends the source text of a word, as `show` gives it. Fails only if memory runs out; a part of
-/// the text may have been appended then.
+/// Appends the source text of a word, as `show` returns it. Fails only if memory runs out, possibly
+/// after a part of the text has been appended.
 #[tactic(auto, using(crate::proofs::ShownForm::text_by_digits), unfolding(crate::specs::inner::ByDigits::form_with))]
 pub fn push_shown(text: &mut Vec<u8>, word: u16) -> Result<(), AllocError>
     ensures text { OnOk result (text.new.items ≡ text.old.items ++ show_of word) }
@@ -76,7 +76,7 @@ pub fn push_shown(text: &mut Vec<u8>, word: u16) -> Result<(), AllocError>
     }
 }
 
-/// Appends the text of a word with the first digit 0.
+/// Appends the text of a word whose first digit is 0.
 #[tactic(auto, unfolding(crate::specs::inner::ByDigits::form_with))]
 fn push_system(text: &mut Vec<u8>, word: u16) -> Result<(), AllocError>
     ensures { OnOk result (text.new.items
@@ -100,7 +100,7 @@ fn push_system(text: &mut Vec<u8>, word: u16) -> Result<(), AllocError>
     }
 }
 
-/// Appends the text of a word with the first digit 8.
+/// Appends the text of a word whose first digit is 8.
 #[tactic(auto, unfolding(crate::specs::inner::ByDigits::form_with))]
 fn push_arithmetic(text: &mut Vec<u8>, word: u16) -> Result<(), AllocError>
     ensures { OnOk result (text.new.items
@@ -120,7 +120,7 @@ fn push_arithmetic(text: &mut Vec<u8>, word: u16) -> Result<(), AllocError>
     }
 }
 
-/// Appends the text of a word with the first digit 14 (`E`).
+/// Appends the text of a word whose first digit is 14 (`E`).
 #[tactic(auto, unfolding(crate::specs::inner::ByDigits::form_with))]
 fn push_key(text: &mut Vec<u8>, word: u16) -> Result<(), AllocError>
     ensures { OnOk result (text.new.items
@@ -133,7 +133,7 @@ fn push_key(text: &mut Vec<u8>, word: u16) -> Result<(), AllocError>
     }
 }
 
-/// Appends the text of a word with the first digit 15 (`F`).
+/// Appends the text of a word whose first digit is 15 (`F`).
 #[tactic(auto, unfolding(crate::specs::inner::ByDigits::form_with))]
 fn push_transfer(text: &mut Vec<u8>, word: u16) -> Result<(), AllocError>
     ensures { OnOk result (text.new.items
@@ -170,7 +170,7 @@ fn push_comparison(text: &mut Vec<u8>, name: &[u8], word: u16) -> Result<(), All
     }
 }
 
-/// Appends a name and the register X of a word, and also the register Y unless that is V0.
+/// Appends a name and the register X of a word. Also appends the register Y unless it is V0.
 #[inline(always)]
 fn push_shift(text: &mut Vec<u8>, name: &[u8], word: u16) -> Result<(), AllocError>
     ensures { OnOk result (text.new.items ≡ text.old.items
@@ -184,7 +184,7 @@ fn push_shift(text: &mut Vec<u8>, name: &[u8], word: u16) -> Result<(), AllocErr
     }
 }
 
-/// Appends the text before a register, the register X of a word, and the text after it.
+/// Appends the text `before`, the register X of a word, and the text `after`.
 #[inline(always)]
 fn push_with_register(
     text: &mut Vec<u8>,
@@ -224,7 +224,7 @@ fn push_with_byte(text: &mut Vec<u8>, name: &[u8], word: u16) -> Result<(), Allo
     text.extend_from_slice(&[b' ', b'V', x, b',', b' ', b'#', high, low])
 }
 
-/// Appends the text before an address, and the address of a word.
+/// Appends the text `before` and the address of a word.
 #[inline(always)]
 fn push_with_address(text: &mut Vec<u8>, before: &[u8], word: u16) -> Result<(), AllocError>
     ensures { OnOk result (text.new.items
@@ -235,7 +235,7 @@ fn push_with_address(text: &mut Vec<u8>, before: &[u8], word: u16) -> Result<(),
     text.extend_from_slice(&[b' ', b'#', a, b, c])
 }
 
-/// Appends the text before a number, and the number, which is below 16, in decimal.
+/// Appends the text `before` and a number below 16 in decimal.
 #[inline(always)]
 fn push_small_decimal(text: &mut Vec<u8>, before: &[u8], number: u16) -> Result<(), AllocError>
     requires { number < 16 }

@@ -20,8 +20,8 @@ use crate::shape::Shape;
 use std::alloc::{AllocError, Global};
 
 /// The meaning of a line; none if something after its first word doesn't fit. `front` is the
-/// directive at the front of its statement, and `forms` has the forms of an instruction there.
-/// Fails only if memory runs out.
+/// directive at the front of its statement, and `forms` contains the forms of the instruction
+/// there. Fails only if memory runs out.
 pub(crate) fn body_of_shape(
     alloc: Global,
     shape: &Shape,
@@ -40,7 +40,7 @@ pub(crate) fn body_of_shape(
     }
 }
 
-/// The meaning of a statement, which follows a label if `labelled`; none if it doesn't fit.
+/// The meaning of a statement; none if it doesn't fit. `labelled` means that a label precedes it.
 fn statement_body(
     alloc: Global,
     labelled: bool,
@@ -141,7 +141,7 @@ fn one_switch(tokens: &[Lexeme]) -> Option<bool>
     }
 }
 
-/// Whether the operands of OPTION are exactly one of its words.
+/// Whether the operands of OPTION are exactly one of the words that it accepts.
 fn is_known_option(tokens: &[Lexeme]) -> bool
     ensures { result ≡ is_known_option tokens.now }
 {
@@ -176,7 +176,7 @@ pub(crate) fn takes_label(directive: Directive) -> bool
 }
 
 /// Whether this assembler lacks the statement: true for INCLUDE, for UNDEF, and for OPTION without
-/// exactly one of its words.
+/// exactly one of the words that it accepts.
 pub(crate) fn is_outside(front: Option<Directive>, tokens: &[Lexeme]) -> bool
     ensures { result ≡ is_outside front tokens.now }
 {

@@ -21,7 +21,7 @@ pub enum Kind {
     Text,
     /// A sign, by its byte.
     Sign(u8),
-    /// Not a token, with its fault.
+    /// Bytes that are not a token, with their fault.
     Bad(Fault),
 }
 
@@ -136,8 +136,8 @@ fn is_digit_of(base: u32, byte: u8) -> bool
     }
 }
 
-/// The number that begins with `start` and goes on with these digits, or a fault if it is above
-/// 2147483647.
+/// The number whose first digits have the value `start` and whose other digits are these, or a
+/// fault if the number is above 2147483647.
 #[tactic(auto, using(std::proofs::lemmas::List::Sums::fold_more))]
 fn number(base: u32, start: u32, digits: &[u8]) -> Kind
     requires low { 0 < base }
@@ -221,7 +221,7 @@ fn run_length(bytes: &[u8]) -> usize
     bytes.len()
 }
 
-/// The number of bytes before the next quote; of all bytes if there is none.
+/// The number of bytes before the next quote, or of all bytes if there is no quote.
 #[tactic(auto, using(crate::proofs::Scan::prefix_steps))]
 fn text_length(quote: u8, bytes: &[u8]) -> usize
     ensures within { result ≤ length bytes.now }
@@ -312,7 +312,7 @@ pub(crate) fn token_from(line: &[u8], from: usize) -> Option<Token>
     None
 }
 
-/// The number of tokens to take room for with the first one, enough for most lines.
+/// The number of tokens to reserve room for when the first token is added; enough for most lines.
 pub(crate) const USUAL_TOKENS: usize = 12;
 
 fn push_token(tokens: &mut Vec<Token>, token: Token) -> Result<(), AllocError>
@@ -325,7 +325,7 @@ fn push_token(tokens: &mut Vec<Token>, token: Token) -> Result<(), AllocError>
     Ok(())
 }
 
-/// The tokens of a line in rising order, each with its place. A line has exactly one such list.
+/// The tokens of a line from left to right, each with its place. A line has exactly one such list.
 /// Fails only if memory runs out.
 pub fn tokens(alloc: Global, line: &[u8]) -> Result<Vec<Token>, AllocError>
     ensures list { IfOk result (λ tokens. tokens.items ≡ tokens_of line.now) }

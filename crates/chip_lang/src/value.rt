@@ -54,8 +54,8 @@ impl<'a, N: Names> Meanings<'a, N> {
     }
 }
 
-/// The value of an expression of several tokens. A function for these alone keeps the code for
-/// expressions of one token small where it is inlined.
+/// The value of an expression of several tokens. Because this function is separate, the inlined
+/// code for expressions of one token stays small.
 #[inline(never)]
 fn eval_compound<N: Names>(compound: &Postfix, names: &N) -> Result<i32, Fault>
     ensures { result ≡ value compound.now (N.symbols names.now) }
@@ -65,8 +65,8 @@ fn eval_compound<N: Names>(compound: &Postfix, names: &N) -> Result<i32, Fault>
     eval_items(items, &meanings)
 }
 
-/// The value of the tree that the items leave, or its first fault. One turn of the loop takes all
-/// items of an expression. A sign without a left side, which no expression has, takes 0 for it.
+/// The value of the tree that the items build, or its first fault. One turn of the loop evaluates all items of an
+/// expression. A sign without a left operand would use 0, but no expression contains one.
 #[inline(always)]
 fn eval_items<N: Names>(items: &[Item], meanings: &Meanings<N>) -> Result<i32, Fault>
     requires whole { popped (stack_of meanings.now.words.now items.now) ≡ [] }
@@ -81,10 +81,10 @@ fn eval_items<N: Names>(items: &[Item], meanings: &Meanings<N>) -> Result<i32, F
     Ok(top)
 }
 
-/// Evaluates the items up to the sign whose left operand is `left`, where the right operand begins
-/// with the value `first`. Returns the value at that sign and the items after it; without such a
-/// sign, returns the value of the right operand. Items are taken from the left, so the first fault
-/// is the fault of the expression.
+/// Evaluates the items up to the sign whose left operand is `left`. The right operand of that sign
+/// begins with the value `first`. Returns the result of the sign and the items after it; if there
+/// is no such sign, returns the value of the right operand and no items. The items are evaluated
+/// from the left, so the first fault found is the fault of the expression.
 fn eval_right<'a, N: Names>(
     left: i32,
     first: i32,
@@ -131,8 +131,8 @@ impl Names for NoNames {
     }
 }
 
-/// The value of an expression that has the same value under all tables of names; none for an
-/// expression with a name or a fault.
+/// The value of a constant expression, which is the same under all tables of names; none if the
+/// expression contains a name or has a fault.
 #[tactic(auto, using(crate::proofs::Constants::constants))]
 pub fn constant(expr: &Expr) -> Option<i32>
     ensures value { result ≡ constant (tree_of expr.now) }

@@ -1,4 +1,4 @@
--- Rows of bits: what a shift, an exclusive or and a mask do to each bit.
+-- Rows of bits: how a shift, an exclusive or and a mask change each bit.
 use Rattle.std.proofs.Common.{◌≡◌, ℕ, ◌+◌, ◌-◌, ◌*◌, ◌/◌, ◌%◌, ◌^◌, ◌<◌, ◌≤◌, Bool, true, false, not, ◌&&◌, ◌||◌, ◌==◌, ◌≢◌, nat_eq, min, max, refl, sym, ap, ◌∙◌, arith, add-zero, subst, ◌⊎◌, inl, inr, nat_le, ⊎_elim, bit_and, get_or}
 use Rattle.std.proofs.Math.Bool.{or-false}
 use Rattle.std.specs.Int.{bit_at}
@@ -13,7 +13,7 @@ use Rattle.chip_machine.specs.inner.Stored.{differ, any_below}
 use Rattle.chip_machine.specs.Points.{lights}
 use Rattle.chip_machine.proofs.PointLemmas.{any_below-false, any_below_none, any_below_same}
 
--- ---- each bit of a byte twice
+-- ---- each bit of a byte occurs twice
 
 wrong_bit : ℕ → ℕ → Bool
 wrong_bit byte k = not (nat_eq (bit_at (get_or DOUBLED byte 0) k) (bit_at byte (k / 2)))
@@ -27,7 +27,7 @@ unfolding wrong_bit
 bit_at-doubled byte k small within =
     eqb-true _ _ (not-false _ (any_below-false (wrong_bit byte) 16 (any_below-false (λ byte. any_below (wrong_bit byte) 16) 256 no_wrong_byte byte small) k within))
 
--- ---- sixteen bits, put at the left and moved right
+-- ---- sixteen bits, placed at the left and moved right
 
 moved : (bits k start m : ℕ) → bit_at (bits * 2 ^ k / 2 ^ start) m ≡ bit_at (bits * 2 ^ k + 0) (start + m)
 moved bits k start m = ap (λ n. n % 2) (shr-shr (bits * 2 ^ k) start m) ∙ ap (λ n. bit_at n (start + m)) (sym (add-zero (bits * 2 ^ k)))
@@ -50,7 +50,7 @@ module _ (bits start column : ℕ) (fits : bits < 2 ^ 16) (on_screen : column < 
   pub stripe_right : start + 16 ≤ column → bit_at (bits * 2 ^ 112 % 2 ^ 128 / 2 ^ start) (127 - column) ≡ 0
   stripe_right out = whole ∙ bit_at_cat_low bits 112 0 (start + (127 - column)) (omega arith) ∙ bit_at-zero _
 
--- the shift by its part under 64, if the bits are put into the half in which they start
+-- the shift by less than 64 columns, if the bits are placed into the half in which they start
 pub placed_within : (bits start : ℕ) → bits < 2 ^ 16 → start + 16 ≤ 64 → bits * 2 ^ 48 % 2 ^ 64 / 2 ^ (start % 64) * 2 ^ 64 % 2 ^ 128 ≡ bits * 2 ^ 112 % 2 ^ 128 / 2 ^ start
 placed_within bits start fits left =
     let rest = 48 - start in
@@ -77,12 +77,12 @@ placed_right bits start fits right on_screen =
     ∙ (λ i. whole i / 2 ^ e i)
     ∙ ap (λ n. n / 2 ^ start) (sym (shl_whole bits 16 112 128 fits (omega arith)))
 
--- ---- an exclusive or inverts the columns that the other row lights
+-- ---- an exclusive or inverts the columns that are lit in the other row
 
 one_or_zero : (a : ℕ) → a < 2 → (a ≡ 0) ⊎ (a ≡ 1)
 one_or_zero a h = ⊎_elim (λ z. inl z) (λ n. inr (omega arith)) (cases_eq a 0)
 
--- anything that holds at 0 and at 1 holds for each bit
+-- a statement that is true for 0 and 1 is true for each bit
 at_bits : (P : ℕ → ℕ → Type 0) → P 0 0 → P 0 1 → P 1 0 → P 1 1 → (a b : ℕ) → a < 2 → b < 2 → P a b
 at_bits P z00 z01 z10 z11 a b p q =
     ⊎_elim
@@ -132,13 +132,13 @@ some_lit bits fits =
     (λ (no : any_below (lights bits) 128 ≡ false). ap not (eq-eqb bits 0 (dark_row bits fits (any_below-false (lights bits) 128 no))) ∙ sym no)
     (cases_Bool (any_below (lights bits) 128))
 
--- the mask of two rows is nonzero if and only if they light a column in common
+-- the mask of two rows is nonzero if and only if the rows light a common column
 pub common_column : (a b : ℕ) → b < 2 ^ 128 → not (nat_eq (bit_and a b) 0) ≡ any_below (λ column. lights a column && lights b column) 128
 common_column a b fits =
     some_lit (bit_and a b) (omega (arith, and_le_r a b))
     ∙ any_below_same (lights (bit_and a b)) (λ column. lights a column && lights b column) 128 (λ column h. lights-bit_and a b column)
 
--- the union of two rows is nonzero if and only if one of them is
+-- the union of two rows is nonzero if and only if one of the rows is nonzero
 pub either_some : (a b : ℕ) → not (nat_eq (bit_or a b) 0) ≡ (not (nat_eq a 0) || not (nat_eq b 0))
 either_some a b =
     ⊎_elim
@@ -152,7 +152,7 @@ either_some a b =
 
 -- ---- a shift by whole columns
 
--- to the right, as `>> n`
+-- a shift to the right, as `>> n`
 pub lights_shr : (bits n column : ℕ) → bits < 2 ^ 128 → n ≤ 128 → column < 128 → lights (bits / 2 ^ n) column ≡ (nat_le n column && lights bits (column - n))
 lights_shr bits n column fits small on_screen =
     ⊎_elim
@@ -165,7 +165,7 @@ lights_shr bits n column fits small on_screen =
     shifted : bit_at (bits / 2 ^ n) (127 - column) ≡ bit_at bits (n + (127 - column))
     shifted = ap (λ m. m % 2) (shr-shr bits n (127 - column))
 
--- to the left, as `<< n`
+-- a shift to the left, as `<< n`
 low_bit : (n w i : ℕ) → i < w → bit_at (n % 2 ^ w) i ≡ bit_at n i
 low_bit n w i h = sym (bit_at_cat_low (n / 2 ^ w) w (n % 2 ^ w) i h) ∙ ap (λ m. bit_at m i) (shr_split n w)
 
@@ -181,7 +181,7 @@ module _ (bits n column : ℕ) (on_screen : column < 128) where
   pub lights_shl_out : 128 ≤ column + n → lights (bits * 2 ^ n % 2 ^ 128) column ≡ false
   lights_shl_out out = ap (λ bit. bit == 1) (low_part ∙ bit_at_cat_low bits n 0 (127 - column) (omega arith) ∙ bit_at-zero _)
 
--- ---- a move to the right by `start`, in which the columns that leave come in at the left
+-- ---- a move to the right by `start`, in which the columns that leave re-enter at the left
 
 same_or : (b : Bool) → (b || b) ≡ b
 same_or true = refl

@@ -14,7 +14,7 @@ use Rattle.chip_machine.specs.Step.{Effect, Stops, Keyed, draws_nothing, effect,
 use Rattle.chip_machine.specs.Choices.{IsWithin, IsChoice, Represents}
 use Rattle.chip_machine.specs.inner.KeyRows.{choices_of}
 
--- bits of masks
+-- the bits of masks
 down_alone : (k : ℕ) → is_key_down (2 ^ k) k ≡ true
 down_alone k = eq-eqb _ _ (bit_at-pow_same k)
 
@@ -41,7 +41,7 @@ and_down a b i h k =
 allowed_down : (allowed keys i : ℕ) → IsWithin allowed keys → is_key_down keys i ≡ true → is_key_down allowed i ≡ true
 allowed_down allowed keys i within h = (both_down keys allowed i (ap (λ m. is_key_down m i) within ∙ h)).1
 
--- the first key of a list that is down
+-- the first key in a list that is down
 found_true : (b : Bool) (p : ℕ → Bool) (x : ℕ) (l : List ℕ) (k : ℕ) → ((h : find p l ≡ Some k) → p k ≡ true) → p x ≡ b → (if b then Some x else find p l) ≡ Some k → p k ≡ true
 found_true true p x l k later e h = let same : x ≡ k = cc in ap p (sym same) ∙ e
 found_true false p x l k later e h = later h
@@ -54,7 +54,7 @@ find_none : (p : ℕ → Bool) (l : List ℕ) → ((i : ℕ) → p i ≡ false) 
 find_none p [] h = refl
 find_none p (x ∷ l) h = ap (λ b. if b then Some x else find p l) (h x) ∙ find_none p l h
 
--- the only number that passes a test is found if another test found it before
+-- a search finds the only number that passes its test, if a search with another test finds that number
 found_alone : (b : Bool) (p q : ℕ → Bool) (x : ℕ) (l : List ℕ) (k : ℕ) → q k ≡ true → ((i : ℕ) → i ≢ k → q i ≡ false) → (find p l ≡ Some k → find q l ≡ Some k) → (if b then Some x else find p l) ≡ Some k → (if q x then Some x else find q l) ≡ Some k
 found_alone true p q x l k passes others later h =
     let same : x ≡ k = cc in
@@ -69,7 +69,7 @@ find_alone : (p q : ℕ → Bool) (l : List ℕ) (k : ℕ) → q k ≡ true → 
 find_alone p q [] k passes others h = absurd (cc)
 find_alone p q (x ∷ l) k passes others h = found_alone (p x) p q x l k passes others (find_alone p q l k passes others) h
 
--- a core that depends on the keys is the same for each mask as for a choice
+-- for each mask of allowed keys, some choice leads to the same core
 abbrev IsOneOf : ℕ → ℕ → (ℕ → Core) → Type 0
 IsOneOf allowed some core_by =
     (keys : ℕ) → IsWithin allowed keys → (one : ℕ) × IsChoice some one × (core_by keys ≡ core_by one)
@@ -98,7 +98,7 @@ wait_by allowed l f keys within (Some k) e = (
 wait_represents : (allowed : ℕ) (l : List ℕ) (f : Option ℕ → Core) → IsOneOf allowed allowed (λ keys. f (find (is_key_down keys) l))
 wait_represents allowed l f keys within = wait_by allowed l f keys within (find (is_key_down keys) l) refl
 
--- an effect that depends on the keys is the same for each mask as for a choice
+-- for each mask of allowed keys, some choice has the same effect
 abbrev Acts : ℕ → ℕ → Effect → Type 0
 Acts allowed some (Keyed core_by) = IsOneOf allowed some core_by
 Acts allowed some _ = Unit {0}
@@ -143,7 +143,7 @@ step_acts false allowed some s h keys within =
     let r = perform_acts allowed some s (effect_at s) h keys within in
     (r.0, r.1, λ tick. ap (settle tick s) r.2)
 
--- the word at pc decides which keys the next step can distinguish
+-- the word at pc determines which keys the next step can distinguish
 pub represents : (allowed some : ℕ) (s : State) → Acts allowed some (effect_at s) → Represents allowed some s
 unfolding step_of
 represents allowed some s h keys within = step_acts (is_some s.core.stopped) allowed some s h keys within

@@ -1,5 +1,5 @@
--- Masks of parts: their bits, masks that share no bit, and the bits of a mask after some were
--- removed and others added.
+-- Masks of parts: their bits, masks that share no bit, and the bits of a mask after some are removed
+-- and others are added.
 use Rattle.std.proofs.Common.{◌≡◌, ◌≢◌, ℕ, ◌-◌, ◌*◌, ◌/◌, ◌%◌, ◌^◌, ◌<◌, ◌≤◌, ◌==◌, ◌&&◌, ◌||◌, min, max, bit_and, bit_or, true, false, not, List, [], ◌∷◌, refl, sym, ap, ◌∙◌, inl, inr, arith, rules, eq-eqb, nat_le, subst, w32, w64, Bool}
 use Rattle.std.specs.Int.{bit_at, bit_not}
 use Rattle.std.specs.List.{list_all, list_any}
@@ -10,7 +10,7 @@ use Rattle.chip_machine.specs.Forgotten.{first_registers, has_byte, has_part, is
 use Rattle.chip_machine.specs.inner.Masks.{mask_of}
 use Rattle.chip_machine.specs.inner.Packed.{AreSmall, bytes_packed, packed, parts_packed, window_packed}
 
--- ---- masks as they are computed
+-- ---- masks as the code computes them
 
 pub mask_of_one : (p : ℕ) → p < 32 → 1 * 2 ^ p % 4294967296 ≡ mask_of (p ∷ [])
 mask_of_one p low =
@@ -26,7 +26,7 @@ pub mask_of_first : (x : ℕ) → x < 16 → 16 * 2 ^ x % 4294967296 - 8 ≡ mas
 mask_of_first x low =
     eqb-true _ _ (agree_below_at (λ n. 16 * 2 ^ n % 4294967296 - 8 == mask_of (first_registers n)) (λ _. true) 16 x refl low)
 
--- ---- bits of masks
+-- ---- the bits of masks
 
 abbrev has_bit : ℕ → ℕ → Bool
 has_bit m k = m / 2 ^ k % 2 == 1
@@ -73,7 +73,7 @@ none_on test (p ∷ ps) h =
     let both = and_parts (not (test p)) (list_all (λ part. not (test part)) ps) h in
     ap (λ b. b || list_any test ps) (not-true (test p) both.0) ∙ none_on test ps both.1
 
--- a mask that has none of several bits
+-- a mask that contains none of several bits
 none_in : (m : ℕ) (parts : List ℕ) → bit_and m (mask_of parts) ≡ 0 → list_all (λ part. not (has_bit m part)) parts ≡ true
 none_in m parts none =
     all_off m parts (λ part one.
@@ -81,7 +81,7 @@ none_in m parts none =
     let both : min (bit_at m part) (bit_at (mask_of parts) part) ≡ 0 = sym (bit_at_and m (mask_of parts) part) ∙ ap (λ n. bit_at n part) none ∙ bit_at-zero part in
     is_off m part (omega arith))
 
--- a bit of the mask stays if it isn't set, and is added if it is spoiled
+-- a bit of the mask stays if its part isn't set, and a bit is added if its part is spoiled
 left_in : (m : ℕ) (set spoilt : List ℕ) → m < 2 ^ 32 → mask_of set < 2 ^ 32 → (part : ℕ) → (has_bit m part && not (is_one_of set part) || is_one_of spoilt part) ≡ true
     → has_bit (bit_or (bit_and m (bit_not w32 (mask_of set))) (mask_of spoilt)) part ≡ true
 left_in m set spoilt small fits part h =
@@ -100,7 +100,7 @@ left_in m set spoilt small fits part h =
           is_on _ part (bit_at_or kept (mask_of spoilt) part ∙ omega (arith, bit_at-lt kept part))
     ]
 
--- a mask that has no bits outside another mask
+-- a mask without bits outside another mask
 within : (m n : ℕ) → bit_or m n ≡ n → (part : ℕ) → has_bit m part ≡ true → has_bit n part ≡ true
 within m n same part h =
     let one : bit_at m part ≡ 1 = on m part h in
@@ -114,7 +114,7 @@ with_more m n part h = let one = on m part h in is_on _ part (bit_at_or m n part
 with_one : (m p : ℕ) → has_bit (bit_or m (2 ^ p)) p ≡ true
 with_one m p = is_on _ p (bit_at_or m (2 ^ p) p ∙ omega (arith, bit_at-pow_same p, bit_at-lt m p))
 
--- a mask without one bit keeps the others
+-- removing one bit from a mask keeps the other bits
 without_one : (m p k : ℕ) → m < 2 ^ 64 → p < 64 → has_bit m k ≡ true → k ≢ p → has_bit (bit_and m (bit_not w64 (1 * 2 ^ p % 18446744073709551616))) k ≡ true
 without_one m p k small low h other =
     let here : bit_at m k ≡ 1 = on m k h in
@@ -172,7 +172,7 @@ module _ (p w b v : ℕ) (is : packed p w b ≡ v) (small : AreSmall p w) where
         let shifted : 1 * 2 ^ part % 4294967296 ≡ 2 ^ part = search rules in
         subst (λ (m : ℕ). has_bit m part ≡ true) (sym (low ∙ made ∙ ap (bit_or p) shifted)) (with_one p part)
 
--- each part of one set is in another set
+-- every part of one set is in another set
 pub parts_within : (p q v u : ℕ) → v % 2 ^ 32 ≡ p → u % 2 ^ 32 ≡ q → bit_or p q ≡ q → (part : ℕ) → has_part v part ≡ true → has_part u part ≡ true
 parts_within p q v u is now same part h =
     subst (λ (m : ℕ). has_bit m part ≡ true) (sym now) (within p q same part (subst (λ (m : ℕ). has_bit m part ≡ true) is h))

@@ -1,4 +1,4 @@
--- Sets of points by their members: two sets with the same points are equal.
+-- Sets of points, by their members. Two sets with the same points are equal.
 use Rattle.std.proofs.Common.{◌≡◌, ℕ, zero, suc, ◌+◌, ◌<◌, ◌≤◌, Bool, true, false, not, ◌&&◌, ◌||◌, ◌==◌, nat_le, nat_eq, ◌-◌, map, refl, sym, ap, subst, ◌∙◌, arith, ◌⊎◌, add-one, ⊎_elim}
 use Rattle.std.proofs.Math.Bool.{or-false}
 use Rattle.std.specs.List.{list_any, flat_map, range_with_len}
@@ -27,7 +27,7 @@ same_points a b h = same_set point_total exact_points a b (λ q. h q.0 q.1)
 same_place : (p q : Point) → eq_by_cmp point_cmp p q ≡ (p.0 == q.0 && p.1 == q.1)
 same_place p q = sym (tied_then (nat_cmp p.0 q.0) (nat_cmp p.1 q.1)) ∙ (λ i. unsigned_tied p.0 q.0 i && unsigned_tied p.1 q.1 i)
 
--- the points of a row
+-- the points in a row
 in_row : (c r row a n : ℕ) → list_any (eq_by_cmp point_cmp (c, r)) (map (λ column. (column, row)) (range_with_len a n)) ≡ true → (r ≡ row) × (a ≤ c) × (c < a + n)
 in_row c r row a zero e = absurd (false≢true e)
 in_row c r row a (suc n) e = ⊎_elim
@@ -60,7 +60,7 @@ from_rows c r w a (suc n) left low high =
     (λ later. let up : a + 1 ≤ r = omega arith in or_right _ _ (from_rows c r w (a + 1) n left up (omega arith)))
     (cases_eq r a)
 
--- a rectangle has the points whose column and row are within it
+-- a rectangle contains the points whose column and row are within it
 pub within_rectangle : (w h c r : ℕ) → is_lit (rectangle w h) c r ≡ true → (c < w) × (r < h)
 unfolding rectangle
 within_rectangle w h c r e =
@@ -70,7 +70,7 @@ pub is_lit-rectangle : (w h c r : ℕ) → c < w → r < h → is_lit (rectangle
 unfolding rectangle
 is_lit-rectangle w h c r left high = contains-from_list point_total _ (c, r) ∙ from_rows c r w 0 h left (omega arith) (omega arith)
 
--- ---- the points at which a test passes
+-- ---- the points that pass a test
 
 is_lit_where : (test : ℕ → ℕ → Bool) (c r : ℕ) → is_lit (points_where test) c r ≡ (is_lit (rectangle 128 64) c r && test c r)
 unfolding points_where
@@ -79,12 +79,12 @@ is_lit_where test c r = contains-retain (rectangle 128 64) (λ p. test p.0 p.1) 
 pub is_lit-points_where : (test : ℕ → ℕ → Bool) (c r : ℕ) → c < 128 → r < 64 → is_lit (points_where test) c r ≡ test c r
 is_lit-points_where test c r left high = is_lit_where test c r ∙ ap (λ b. b && test c r) (is_lit-rectangle 128 64 c r left high)
 
--- outside the screen, nothing is lit
+-- outside the screen, no pixel is lit
 pub dark_outside : (test : ℕ → ℕ → Bool) (c r : ℕ) → ((c < 128) × (r < 64) → ⊥) → is_lit (points_where test) c r ≡ false
 dark_outside test c r out =
     is_lit_where test c r ∙ ap (λ b. b && test c r) (false_from_ne_true _ (λ e. out (within_rectangle 128 64 c r e)))
 
--- a set is that of a test if both agree on the screen and the set has no point outside
+-- a set equals the points that pass a test if both agree on the screen and the set has no point outside
 pub same_where : (s : Points) (test : ℕ → ℕ → Bool)
     → ((c r : ℕ) → c < 128 → r < 64 → test c r ≡ is_lit s c r)
     → ((c r : ℕ) → ((c < 128) × (r < 64) → ⊥) → is_lit s c r ≡ false)
@@ -147,7 +147,7 @@ meets_none s t h =
     let none : set.intersection s t ≡ set.empty = same_points (set.intersection s t) set.empty (λ c r. contains-intersection point_total s t (c, r) ∙ h c r ∙ sym (contains-empty point_cmp (c, r))) in
     ap (λ u. not (nat_eq (set.len u) 0)) none ∙ ap (λ n. not (nat_eq n 0)) (len-empty point_cmp)
 
--- whether some point passes both tests, given an answer that is false if and only if none does
+-- whether some point passes both tests, given an answer that is false if and only if no point does
 pub meets_where : (f g : ℕ → ℕ → Bool) (hit : Bool)
     → (hit ≡ false → (c r : ℕ) → c < 128 → r < 64 → (f c r && g c r) ≡ false)
     → (((c r : ℕ) → c < 128 → r < 64 → (f c r && g c r) ≡ false) → hit ≡ false)
@@ -200,7 +200,7 @@ unfolding any_below
 any_below_same f g zero h = refl
 any_below_same f g (suc n) h = λ i. any_below_same f g n (λ k lt. h k (omega arith)) i || h n (omega arith) i
 
--- a test that passes at no number from n to m
+-- a test that no number from n to m passes
 pub any_below_longer : (test : ℕ → Bool) (n m : ℕ) → n ≤ m → ((k : ℕ) → n ≤ k → k < m → test k ≡ false) → any_below test n ≡ any_below test m
 unfolding any_below
 any_below_longer test n zero h none = let e : n ≡ zero = omega arith in ap (any_below test) e
@@ -237,7 +237,7 @@ scrolled_left_where n f g kept entered = points_where_alike f (λ c r. is_lit (p
 pub on_screen-points_where : (test : ℕ → ℕ → Bool) → IsOnScreen (points_where test)
 on_screen-points_where test c r e = within_rectangle 128 64 c r (and_parts _ (test c r) (sym (is_lit_where test c r) ∙ e)).0
 
--- ---- a scroll takes each lit pixel to its new place, if that is on the screen
+-- ---- a scroll moves each lit pixel to its new place, if that place is on the screen
 
 pub moved_down : (n : ℕ) (lit : Points) (c r : ℕ) → c < 128 → r + n < 64 → is_lit (scrolled_down n lit) c (r + n) ≡ is_lit lit c r
 unfolding scrolled_down

@@ -1,4 +1,4 @@
--- The choices that the parts of a list make, one after another.
+-- The choices that the parts of a list name, one after the other.
 use Rattle.std.proofs.Common.{◌≡◌, ◌∙◌, ◌==◌, ℕ, suc, ◌<◌, List, [], ◌∷◌, ◌++◌, length, Option, Some, None, option_map, refl, sym, ap, arith, eq-eqb, if◌then◌else◌, Bool, false}
 use Rattle.std.proofs.lemmas.Bool.{ne_eqb}
 use Rattle.memchr.specs.Find.{Nowhere, Passes, is_byte}
@@ -25,8 +25,8 @@ parts_more (byte ∷ part) rest none =
     ap (λ (b : Bool). if b then [] ∷ parts_of (part ++ comma ∷ rest) else with_byte byte (parts_of (part ++ comma ∷ rest))) (no_comma byte part none)
     ∙ ap (with_byte byte) (parts_more part rest (later byte part none))
 
--- the parts of the rest of a text, together with the choices made so far, give the same as all
--- parts
+-- the choices so far, followed by those of the rest of a text, have the same result as all parts of the
+-- text
 abbrev pub Completes : (start : Option Chosen) → (text rest : List ℕ) → Option Chosen → Type 0
 Completes start text rest chosen = chosen_by start (parts_of text) ≡ chosen_by chosen (parts_of rest)
 

@@ -1,5 +1,5 @@
--- Which parts of a state later steps depend on, if some parts are forgotten, by the rows of the
--- table: two cores that agree in the known parts, and the results of the same step from both.
+-- The parts of a state that later steps depend on, if some parts are forgotten, by the rows of the
+-- table: two cores that agree in the known parts, and the results of the same step from both cores.
 use Rattle.std.proofs.Common.{◌≡◌, ◌≢◌, ℕ, ◌+◌, ◌-◌, ◌*◌, ◌/◌, ◌%◌, ◌^◌, ◌<◌, ◌≤◌, ◌==◌, min, bit_and, bit_or, bit_xor, Bool, true, false, not, List, [], ◌∷◌, ◌++◌, length, get_or, slice_index, slice_set, Option, Some, None, option_map, Result, Ok, Err, refl, sym, nat_le, find, is_some, ap, subst, if◌then◌else◌, take, drop, nat_lt, ◌∙◌, ◌⊎◌, inl, inr, arith, eq-eqb}
 use Rattle.std.specs.FinSet as set
 use Rattle.std.specs.List.{list_all, range_with_len}
@@ -35,15 +35,15 @@ Near after most a b =
     (others a ≡ others b) × (Agree (λ part. after part ≡ false) a.registers b.registers a.index b.index a.lit b.lit)
     × ((a.draws % length a.tape ≡ b.draws % length b.tape) × (a.draws ≤ most))
 
--- the bytes that are read have the given length, unless nothing is known
+-- the bytes that are read have the given length, unless no part is known
 abbrev HasSize : (after : ℕ → Bool) → ℕ → List ℕ → Type 0
 HasSize after size bytes = (part : ℕ) → after part ≡ false → length bytes ≡ size
 
--- both states read bytes at the same address, or at addresses from which none reaches past the end
+-- both states read bytes at the same address, or at addresses where no byte is past the end
 abbrev SameSpan : (i j count : ℕ) → Type 0
 SameSpan i j count = (i ≡ j) ⊎ ((i + count ≤ MEMORY_BYTES) × (j + count ≤ MEMORY_BYTES))
 
--- both states read the same number of bytes, and the bytes agree except where they are forgotten
+-- both states read the same number of bytes, and the bytes agree except for forgotten ones
 abbrev AreReadAlike : (gone : ℕ → Bool) (i count : ℕ) → (bytes read : List ℕ) → Type 0
 AreReadAlike gone i count bytes read =
     (length bytes ≡ length read) × ((k : ℕ) → k < count → gone (i + k) ≡ false → slice_index bytes k ≡ slice_index read k)
@@ -58,7 +58,7 @@ Like after gone lost most keys i j (Stores x a) (Stores y b) =
     (length x ≡ length y) × (i ≡ j) × ((k : ℕ) → k < length x → lost (i + k) ≡ false → slice_index x k ≡ slice_index y k) × Near after most a b
 Like after gone lost most keys i j _ _ = ⊥
 
--- the value of pc after an effect of the keys
+-- the value of pc after an effect that depends on the keys
 abbrev Leads : (keys to : ℕ) → Effect → Type 0
 Leads keys to (Keyed f) = (f keys).pc ≡ to
 Leads keys to _ = Unit {0}
@@ -102,7 +102,7 @@ sprite_size false wide n small = omega arith
 abbrev top : ℕ
 top = 2 ^ 64 - 1
 
--- the core with other registers, I, screen, sound timer and draws
+-- the core with other registers, I, screen, sound timer and number of random bytes used
 abbrev twin : Core → List ℕ → ℕ → Points → ℕ → ℕ → Core
 twin c r i l z e = record c { registers = r; index = i; lit = l; sound = z; draws = e }
 
@@ -198,7 +198,7 @@ module _ (before : ℕ) (after lost : ℕ → Bool) (keys to : ℕ) (c : Core) (
         | inr known ↦ inr known
       ]
 
-  -- if a part is known after an instruction that may spoil it, all parts that the instruction uses
+  -- if a part is known after an instruction that may spoil it, then all parts that the instruction uses
   -- are known
   told_by : (any : Bool) (used spoiled set : List ℕ) → is_one_forgotten before used ≡ any → LeftBy set (if any then spoiled else []) → (part : ℕ) → is_one_of spoiled part ≡ true → after part ≡ false → known used ≡ true
   told_by true used spoiled set is h part one off = absurd (let on = h part (or_right _ _ one) in cc)
@@ -255,7 +255,7 @@ module _ (before : ℕ) (after lost : ℕ → Bool) (keys to : ℕ) (c : Core) (
   resize true high h = (refl, relight set.empty set.empty (λ _. refl) (rest_of_one screen_part [] h) base, steady)
   resize false high h = (refl, keep [] h, steady)
 
-  -- a number is added to I; VF says how large the sum is, or stays
+  -- a number is added to I; VF is set to whether the sum is above 0FFF, or stays
   abbrev summed : Bool → ℕ → Core → Core
   summed flags n k =
       let moved = with_index ((k.index + n) % 65536) k in
@@ -454,12 +454,12 @@ module _ (before : ℕ) (after lost : ℕ → Bool) (keys to : ℕ) (c : Core) (
   at_like false word other small same u h b g =
       subst (λ (w : Option Instr). LikeBy (effect_of_word word c) (effect_of_word w d)) (same refl) (word_like word small u h b g)
 
--- ---- memories that agree except for some bytes
+-- ---- memories that agree except at some bytes
 
 abbrev SameBytes : (lost : ℕ → Bool) → List ℕ → List ℕ → Type 0
 SameBytes lost m n = (at : ℕ) → lost at ≡ false → slice_index m at ≡ slice_index n at
 
--- the bytes that are read agree where they are known
+-- the bytes that are read agree wherever they are known
 read_alike : (gone : ℕ → Bool) (m n : List ℕ) (i count : ℕ) → length m ≡ length n → SameBytes gone m n → AreReadAlike gone i count (take count (drop i m)) (take count (drop i n))
 read_alike gone m n i count size same = (
   omega (arith, length-take count (drop i m), length-take count (drop i n), length-drop i m, length-drop i n),
@@ -486,7 +486,7 @@ none_in_row i at =
       | inr off ↦ off
     ]
 
--- a byte agrees if the same value is written to it, or none
+-- a byte agrees if the same value is written to it in both memories, or if it isn't written
 same_written : (m n : List ℕ) (i : ℕ) (bytes others : List ℕ) (at : ℕ) → length m ≡ length n → length bytes ≡ length others → i + length bytes ≤ length m
     → (i ≤ at → at < i + length bytes → slice_index bytes (at - i) ≡ slice_index others (at - i)) → (is_in_row i (length bytes) at ≡ false → slice_index m at ≡ slice_index n at)
     → slice_index (overwrite m i bytes) at ≡ slice_index (overwrite n i others) at
@@ -529,7 +529,7 @@ leads_by keys true s (Keyed f) = refl
 leads_by keys false s (Keyed f) = refl
 leads_by keys tick s _ = tt
 
--- `gone` are the bytes that are forgotten before the step, and `lost` those forgotten after it
+-- `gone` are the bytes forgotten before the step, and `lost` are the bytes forgotten after it
 module _ (after gone lost : ℕ → Bool) (most keys : ℕ) (s : State) (r : List ℕ) (i : ℕ) (l : Points) (z e : ℕ) (n : List ℕ) (fits : HasSize after MEMORY_BYTES s.memory)
     (whole : (at : ℕ) → lost at ≡ false → length s.memory ≡ MEMORY_BYTES) (size : length s.memory ≡ length n) (same : SameBytes gone s.memory n) where
   abbrev t : State

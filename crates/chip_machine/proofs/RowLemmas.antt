@@ -24,18 +24,18 @@ pub row_bytes-low : (sprite : List ℕ) → row_bytes_by_length false sprite ≡
 unfolding row_bytes_by_length
 row_bytes-low sprite = refl
 
--- the sixteen bits of a row of the sprite
+-- the sixteen bits of one row of the sprite
 abbrev pub IsPattern : ℕ → Bool → List ℕ → ℕ → Type 0
 IsPattern bits high sprite j = (i : ℕ) → i < 16 → (bit_at bits (15 - i) == 1) ≡ is_set (row_bytes_by_length high sprite) sprite (i / scale high) j
 
--- past its sixteen bits, a row of the sprite has none
+-- a row of the sprite has no bits past its sixteen bits
 past_columns : (high : Bool) (sprite : List ℕ) (s left column : ℕ) → s ≡ scale high → s * left + 16 ≤ column → 8 * row_bytes_by_length high sprite ≤ column / s - left
 past_columns true sprite s left column e =
     let few = row_bytes_few true sprite in subst (λ (s : ℕ). s * left + 16 ≤ column → 8 * row_bytes_by_length true sprite ≤ column / s - left) (sym e) (λ far. omega arith)
 past_columns false sprite s left column e =
     let one = row_bytes-low sprite in subst (λ (s : ℕ). s * left + 16 ≤ column → 8 * row_bytes_by_length false sprite ≤ column / s - left) (sym e) (λ far. omega arith)
 
--- the bits of a row of the sprite, moved to where it starts, light the columns that it covers
+-- the bits of a row of the sprite, shifted to its start, light the columns that the row covers
 pub lights_covered : (high : Bool) (x y : ℕ) (sprite : List ℕ) (bits column row s : ℕ) → bits < 2 ^ 16 → column < 128 → s ≡ scale high → y % (64 / s) ≤ row / s → IsPattern bits high sprite (row / s - y % (64 / s))
     → lights (bits * 2 ^ 112 % 2 ^ 128 / 2 ^ (s * (x % (128 / s)))) column ≡ covers_by_length high x y sprite column row
 lights_covered high x y sprite bits column row s fits on_screen e below pattern =
@@ -72,7 +72,7 @@ row_bytes-wide : (sprite : List ℕ) → length sprite ≡ 32 → row_bytes_by_l
 unfolding row_bytes_by_length
 row_bytes-wide sprite h = cond-true (nat_eq (length sprite) 32) 2 1 (eq-eqb (length sprite) 32 h)
 
--- a bit of the byte that holds the point
+-- a bit of the byte that contains the point
 pub point_at : (w : ℕ) (sprite : List ℕ) (i j place k : ℕ) → i < 8 * w → w * j + i / 8 ≡ place → 7 - i % 8 ≡ k → (bit_at (get_or sprite place 0) k == 1) ≡ is_set w sprite i j
 point_at w sprite i j place k within at bit = (λ t. bit_at (get_or sprite (sym at t) 0) (sym bit t) == 1) ∙ sym (is_set-inside w sprite i j within)
 
@@ -137,7 +137,7 @@ or_groups : (a b d : Bool) → (a || (b || d)) ≡ ((a || b) || d)
 or_groups true b d = refl
 or_groups false b d = refl
 
--- inverting the pixels of some rows, and then those of the next rows
+-- inverting the pixels of some rows and then those of the next rows
 pub turned_on : (start from end : ℕ) (cover other : ℕ → ℕ → Bool) (old rows new : List ℕ) (met more : ℕ) → start ≤ from → from ≤ end
     → ((column row : ℕ) → column < 128 → from ≤ row → row < end → other column row ≡ cover column row)
     → AreTurned start from cover old rows (not (nat_eq met 0)) → AreTurned from end other rows new (not (nat_eq more 0))

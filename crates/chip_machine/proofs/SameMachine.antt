@@ -1,4 +1,4 @@
--- A machine that has the quirks of another is the same machine, and which profile a machine has.
+-- Equal quirks, compared field by field, and the profile of a set of quirks.
 use Rattle.std.proofs.Common.{◌≡◌, ◌≢◌, Bool, true, false, Some, None, sym, refl, subst}
 use Rattle.std.specs.Bool.{beq}
 use Rattle.std.proofs.lemmas.Bool.{and_parts, false≢true}
@@ -28,7 +28,7 @@ same_sixteens sixteen.Narrow sixteen.Narrow is = refl
 same_sixteens sixteen.Wide sixteen.Wide is = refl
 same_sixteens _ _ is = absurd (false≢true is)
 
--- machines with the same quirks are the same
+-- sets of quirks with the same fields are equal
 pub same_machine : (q other : Quirks) → are_same_quirks q other ≡ true → q ≡ other
 same_machine q other is =
     let super = and_parts _ (beq q.has_super_instructions other.has_super_instructions) is in
@@ -53,7 +53,7 @@ same_machine q other is =
       has_super_instructions = same_bools q.has_super_instructions other.has_super_instructions super.1 i;
     }
 
--- the profile of a profile's machine is that profile
+-- the quirks of a profile lead back to that profile
 profile_itself : (p : Profile) → profile_with (quirks p) ≡ Some p
 unfolding profile_with
 profile_itself profile.Schip = refl
@@ -70,7 +70,7 @@ denied : (b : Bool) → (b ≡ true → ⊥) → b ≡ false
 denied true isn't = absurd (isn't refl)
 denied false isn't = refl
 
--- a machine that belongs to no profile has none
+-- a set of quirks that differs from those of every profile has no profile
 pub profile_none : (q : Quirks) → ((p : Profile) → quirks p ≢ q) → profile_with q ≡ None
 unfolding profile_with
 profile_none q none =

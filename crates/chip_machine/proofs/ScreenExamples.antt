@@ -1,5 +1,5 @@
--- Worked rows of the screen: the columns that a sprite covers, as a number whose highest bit is the
--- leftmost column.
+-- Examples of rows of the screen: the columns that a sprite covers, as a number in which the leftmost
+-- column is the highest bit.
 use Rattle.std.proofs.Common.{◌≡◌, ℕ, zero, suc, ◌+◌, ◌*◌, Bool, true, false, cond, List, [], ◌∷◌, ◌++◌, replicate, refl}
 use Rattle.chip_machine.specs.Sprite.{clipped_over, is_set, row_bytes}
 
@@ -36,7 +36,7 @@ around : number (λ column. clipped_over false 64 32 1 zero_digit column 0) 128 
 unfolding clipped_over is_set row_bytes
 around = refl
 
--- row count 0 in the high size stands for sixteen rows of two bytes
+-- row count 0 in the high size means sixteen rows of two bytes
 big : number (λ column. clipped_over true 0 0 (row_bytes true 0) one_byte column 15) 128 ≡ 0x00ff0000000000000000000000000000
 unfolding clipped_over is_set row_bytes
 big = refl

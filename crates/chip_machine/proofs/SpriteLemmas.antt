@@ -1,4 +1,4 @@
--- Which points a sprite covers, as the code finds them.
+-- The points that a sprite covers, as the code computes them.
 use Rattle.std.proofs.Common.{◌≡◌, ℕ, ◌+◌, ◌-◌, ◌*◌, ◌/◌, ◌%◌, ◌<◌, ◌≤◌, Bool, true, false, not, ◌&&◌, ◌||◌, ◌==◌, nat_eq, nat_lt, nat_le, min, List, length, get_or, refl, sym, ap, subst, ◌∙◌, arith, ◌≢◌, ⊎_elim}
 use Rattle.std.specs.Int.{bit_at}
 use Rattle.std.proofs.lemmas.Bool.{false≢true, cond-true, cond-false, cases_eq, eq-eqb, ne_eqb, le-ltb, lt-ltb, le-leb, lt-leb, and_left, and_right}
@@ -16,7 +16,7 @@ pub is_set_right : (w : ℕ) (sprite : List ℕ) (i j : ℕ) → 8 * w ≤ i →
 unfolding is_set
 is_set_right w sprite i j h = ap (λ b. b && (bit_at (get_or sprite (w * j + i / 8) 0) (7 - i % 8) == 1)) (le-ltb i (8 * w) h)
 
--- a sprite has no point past its last byte
+-- a sprite has no pixel past its last byte
 pub is_set_past : (w : ℕ) (sprite : List ℕ) (i j : ℕ) → length sprite ≤ w * j + i / 8 → is_set w sprite i j ≡ false
 unfolding is_set
 is_set_past w sprite i j h =
@@ -24,18 +24,18 @@ is_set_past w sprite i j h =
     ∙ ap (λ bit. nat_lt i (8 * w) && (bit == 1)) (bit_at-zero (7 - i % 8))
     ∙ and_right (nat_lt i (8 * w)) false refl
 
--- a sprite of n rows has no point past its last row
+-- a sprite of n rows has no pixel past its last row
 pub is_set_below : (w n : ℕ) (sprite : List ℕ) (i j : ℕ) → length sprite ≤ w * n → n ≤ j → is_set w sprite i j ≡ false
 is_set_below w n sprite i j few h =
     let along : n * w ≤ j * w = mul-le-mul_right w h in
     is_set_past w sprite i j (omega (arith, along, few, mul_comm w n, mul_comm w j))
 
--- two cases: a pixel is one stored pixel, or two by two of them
+-- two cases: a pixel is one stored pixel, or two by two stored pixels
 pub at_scale : (P : (scaled s : ℕ) → Type 0) → P 1 1 → P 2 2 → (high : Bool) (s : ℕ) → s ≡ scale high → P (scale high) s
 at_scale P one two true s e = subst (P 1) (sym e) one
 at_scale P one two false s e = subst (P 2) (sym e) two
 
--- stored columns or rows before those of a pixel, and from the pixel on
+-- a stored column or row that lies before those of a pixel, or doesn't
 pub before_pixel : (high : Bool) (s n k : ℕ) → s ≡ scale high → k < s * n → k / s < n
 before_pixel high s n k e = at_scale (λ _ s. k < s * n → k / s < n) (λ low. omega arith) (λ low. omega arith) high s e
 
@@ -73,11 +73,11 @@ module _ (high : Bool) (x y : ℕ) (sprite : List ℕ) (column row : ℕ) where
       ap (λ s. nat_le (x % (128 / s)) (column / s) && nat_le (y % (64 / s)) (row / s) && is_set (row_bytes_by_length high sprite) sprite (column / s - x % (128 / s)) (row / s - y % (64 / s))) (sym e)
       ∙ and_left _ _ (and_right (nat_le (x % (128 / s)) (column / s)) _ (lt-leb (y % (64 / s)) (row / s) out))
 
--- above the first line of a sprite nothing is covered
+-- no pixel above the first line of a sprite is covered
 pub covers_before : (high : Bool) (x y : ℕ) (sprite : List ℕ) (column row : ℕ) → row < scale high * (y % (64 / scale high)) → covers_by_length high x y sprite column row ≡ false
 covers_before high x y sprite column row before = covers_above high x y sprite column row (scale high) refl (before_pixel high (scale high) _ row refl before)
 
--- nothing is covered from the line on where the n rows of the sprite or the screen end
+-- nothing is covered at or after the line where the n rows of the sprite or the screen end
 pub covers_after : (high : Bool) (x y : ℕ) (sprite : List ℕ) (column row count n s : ℕ) → row < 64 → length sprite ≤ row_bytes_by_length high sprite * n → s ≡ scale high → count ≡ min n (64 / s - y % (64 / s)) → scale high * (y % (64 / s) + count) ≤ row → covers_by_length high x y sprite column row ≡ false
 covers_after high x y sprite column row count n s on_screen few scaled e after =
     covers_below high x y sprite column row (scale high) n refl few
@@ -88,7 +88,7 @@ pub lines_on_screen : (high : Bool) (y count n s : ℕ) → s ≡ scale high →
 lines_on_screen high y count n s scaled e =
     at_scale (λ h s. count ≡ min n (64 / s - y % (64 / s)) → h * (y % (64 / s) + count) ≤ 64) (λ e. omega (arith, e)) (λ e. omega (arith, e)) high s scaled e
 
--- the line of a row
+-- the line that contains a row
 pub line_of : (high : Bool) (line row : ℕ) → scale high * line ≤ row → row < scale high * line + scale high → row / scale high ≡ line
 line_of true line row low up = omega arith
 line_of false line row low up = omega arith
@@ -121,8 +121,8 @@ row_bytes_by_rows true n sprite small size =
     cond-false (nat_eq (length sprite) 32) 2 1 (ne_eqb (length sprite) 32 (λ (e : length sprite ≡ 32). omega arith)) ∙ sym (cond-false (nat_eq n 0) 2 1 (ne_eqb n 0 some)))
     (cases_eq n 0)
 
--- the loop for clipped sprites uses the right number of bytes per row, if the sprite isn't wide in
--- the low size
+-- the loop for clipped sprites uses the right number of bytes per row, unless the sprite has wide rows
+-- in the low size
 pub row_bytes-clipped : (high : Bool) (sprite : List ℕ) → (high ≡ false → length sprite ≡ 32 → ⊥) → row_bytes_by_length high sprite ≡ sprite_row_bytes sprite
 unfolding row_bytes_by_length sprite_row_bytes
 row_bytes-clipped true sprite narrow = refl

@@ -13,12 +13,12 @@ pub take-overwrite : (m : List ℕ) (i : ℕ) (bytes : List ℕ) → i ≤ lengt
 unfolding overwrite
 take-overwrite m i bytes fits = rw append_assoc (take_at (take i m) (bytes ++ drop (i + length bytes) m) i (length-take-le i m fits))
 
--- from the address on there are the written bytes, and then the old ones
+-- starting at the address there are the written bytes, and then the old bytes
 pub drop-overwrite : (m : List ℕ) (i : ℕ) (bytes : List ℕ) → i ≤ length m → drop i (overwrite m i bytes) ≡ bytes ++ drop (i + length bytes) m
 unfolding overwrite
 drop-overwrite m i bytes fits = rw append_assoc (drop_at (take i m) (bytes ++ drop (i + length bytes) m) i (length-take-le i m fits))
 
--- past the written bytes, the old ones stay
+-- past the written bytes, the old bytes stay
 pub drop-overwrite_past : (m : List ℕ) (i : ℕ) (bytes : List ℕ) (n : ℕ) → i ≤ length m → drop (i + length bytes + n) (overwrite m i bytes) ≡ drop (i + length bytes + n) m
 unfolding overwrite
 drop-overwrite_past m i bytes n fits =
@@ -43,7 +43,7 @@ length-digits =
 regrouped : (n : ℕ) → 180 + n ≡ 80 + (100 + n)
 regrouped n = omega arith
 
--- past the digits, all bytes are zeros
+-- past the digits, all bytes are 0
 zeros_past : (n : ℕ) → drop (180 + n) digits_memory ≡ replicate (MEMORY_BYTES - (180 + n)) 0
 unfolding zeros
 zeros_past n =

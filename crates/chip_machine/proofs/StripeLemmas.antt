@@ -11,7 +11,7 @@ use Rattle.chip_machine.proofs.BitLemmas.{lights_shl, lights_shl_out, lights_shr
 use Rattle.chip_machine.proofs.RowLemmas.{IsPattern, point_at}
 use Rattle.chip_machine.proofs.SpriteLemmas.{at_scale, before_pixel, from_pixel, is_set_right, line_of, row_bytes-clipped}
 
--- the 32 bits of a row of the sprite
+-- the 32 bits of one row of the sprite
 abbrev pub IsWidePattern : ℕ → Bool → List ℕ → ℕ → Type 0
 IsWidePattern bits high sprite j = (i : ℕ) → i < 32 → (bit_at bits (31 - i) == 1) ≡ is_set (sprite_row_bytes sprite) sprite (i / scale high) j
 
@@ -71,7 +71,7 @@ module _ (high : Bool) (sprite : List ℕ) (j : ℕ) where
       (cases_lt i 16)
       ∙ ap (λ w. is_set w sprite (i / 2) j) (sym (row_bytes-wide sprite long)))
 
-  -- the columns that begin with these bits
+  -- the columns that start with these bits
   pub row_lights : (bits : ℕ) → IsWidePattern bits high sprite j → (column : ℕ) → column < 128
       → lights (bits * 2 ^ 96 % 2 ^ 128) column ≡ is_set (sprite_row_bytes sprite) sprite (column / scale high) j
   row_lights bits pattern column on_screen = ⊎_elim

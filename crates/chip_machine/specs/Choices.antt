@@ -2,8 +2,8 @@
 -- Source: chosen by this project.
 --     IsWithin         a mask contains only allowed keys
 --     IsChoice         a mask contains no key, or exactly one key of `some`
---     Represents       for each mask within the allowed keys, some choice of `some` has the same
---                      effect in the next step
+--     Represents       for each mask of allowed keys, some choice of `some` has the same effect in
+--                      the next step
 use Rattle.std.specs.Prelude.{◌≡◌, ℕ, ◌^◌, ◌⊎◌, Bool, true, bit_and}
 use Rattle.chip_machine.specs.State.{State}
 use Rattle.chip_machine.specs.Step.{is_key_down, step_of}

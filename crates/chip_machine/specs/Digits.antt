@@ -1,4 +1,4 @@
--- The shapes of the digits: one byte for each row, with the highest bit at the left.
+-- The shapes of the digits. Each byte is one row, and its highest bit is at the left.
 -- Source: chosen by this project.
 use Rattle.std.specs.Prelude.{ℕ, List, [], ◌∷◌}
 use Rattle.std.specs.List.{flat_map}
@@ -39,6 +39,6 @@ big_shapes =
     (0x3c ∷ 0x7e ∷ 0xc3 ∷ 0xc3 ∷ 0x7f ∷ 0x3f ∷ 0x03 ∷ 0x03 ∷ 0x3e ∷ 0x7c ∷ []) ∷
     []
 
--- the bytes of several shapes, one shape after another
+-- the bytes of several shapes, one shape after the other
 abbrev pub bytes_of : List (List ℕ) → List ℕ
 bytes_of = flat_map (λ shape. shape)

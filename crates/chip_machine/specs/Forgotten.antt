@@ -2,31 +2,30 @@
 -- of its memory that a search may forget, and how a step changes what is forgotten.
 -- Source: chosen by this project, following the table of the instructions.
 --     index_part       the numbers of I and of the screen; `register_part x` is that of register x
---     far_part         the number of a separate part that says whether I points at digits, which
+--     far_part         the number of a separate part that records whether I points at digits, which
 --                      may be known even if the value of I is forgotten
 --     has_part         whether a part is in a set of forgotten parts and bytes; part k is bit k,
 --                      below bit 32
---     window_of        the lowest address that the set's window covers; bits 32 to 47 hold it
+--     window_of        the lowest address that the set's window covers, stored in bits 32 to 47
 --     has_byte         whether the byte at an address is in the set; the first byte of the window
 --                      is bit 48
---     needs            the parts that decide more than the values of other parts and bytes: where
---                      an instruction leads, which bytes it accesses, the delay timer, a key's
---                      number, a flag register
+--     needs            the parts that decide more than the values of other parts and bytes: the next
+--                      pc, the accessed addresses, the delay timer, a key's number, a flag register
 --     uses             the other parts that an instruction computes with
 --     spoils           the parts whose new values depend on those that the instruction uses
 --     spoilt           the spoiled parts if the instruction uses a forgotten part, otherwise none
---     sets             the parts whose values after an instruction depend on nothing except the
---                      parts that it needs and uses
+--     sets             the parts whose values after an instruction depend only on the parts that it
+--                      needs and uses
 --     loaded, stored   how many bytes at I an effect reads and writes; the bytes read are loaded
 --                      into the first registers or drawn
 --     draws            whether an instruction draws the bytes that it reads
 --     stored_part      the part whose value determines a byte that is written
---     AreKept          none of `count` bytes from an address on is forgotten
+--     AreKept          none of `count` bytes starting at an address is forgotten
 --     AreWithin        everything that is forgotten in `some` is also forgotten in `all`
 --     IsUnneeded       the next step of a state needs nothing that is forgotten
---     IsForgottenAfter the set contains all that is forgotten after the next step, which leads to a
---                      given pc, including the registers that it loads with forgotten bytes and the
---                      bytes that it stores from forgotten registers
+--     IsForgottenAfter the set contains everything that is forgotten after the next step, which leads
+--                      to a given pc. That includes registers loaded with forgotten bytes, and bytes
+--                      stored from forgotten registers
 use Rattle.std.specs.Prelude.{◌≡◌, ℕ, ◌+◌, ◌-◌, ◌/◌, ◌%◌, ◌^◌, ◌<◌, ◌≤◌, ◌==◌, ◌&&◌, ◌||◌, Bool, true, false, not, List, [], ◌∷◌, length, Option, Some, None, nat_lt, nat_le, if◌then◌else◌}
 use Rattle.std.specs.List.{list_all, list_any, range_with_len}
 use Rattle.chip_lang.specs.Decoding.{decode_of}
@@ -69,7 +68,7 @@ has_byte forgotten at =
 
 -- ---- by the rows of the instruction table
 
--- a row that isn't listed needs none of the parts
+-- a row that isn't listed needs no part
 unfoldable pub needs : Quirks → Instr → List ℕ
 needs q (row.SkipIfByte x byte) = register_part x ∷ []
 needs q (row.SkipUnlessByte x byte) = register_part x ∷ []
@@ -87,8 +86,8 @@ needs q (row.LoadRegisters x) = index_part ∷ far_part ∷ []
 needs q (row.StoreFlags x) = first_registers x
 needs q instr = []
 
--- ADD with a number needs and uses nothing, because Vx stays forgotten if it was. Nothing depends
--- on the sound timer.
+-- ADD with a number needs and uses nothing, because Vx stays forgotten if it was forgotten before.
+-- Nothing depends on the sound timer.
 unfoldable pub uses : Quirks → Instr → List ℕ
 uses q (row.Copy x y) = register_part y ∷ []
 uses q (row.Or x y) = register_part x ∷ register_part y ∷ []
@@ -106,8 +105,7 @@ uses q (row.SmallDigit x) = register_part x ∷ []
 uses q (row.BigDigit x) = register_part x ∷ []
 uses q instr = []
 
--- the address of a digit lies among the digits, whatever the digit is; a sum with I may lie
--- anywhere
+-- a digit's address is always among the digits, whichever digit it is; a sum with I may be any address
 unfoldable pub spoils : Quirks → Instr → List ℕ
 spoils q (row.Copy x y) = register_part x ∷ []
 spoils q (row.Or x y) = register_part x ∷ []
@@ -133,7 +131,7 @@ abbrev pub spoilt : Quirks → (forgotten : ℕ) → Instr → List ℕ
 spoilt q forgotten instr =
     if is_one_forgotten forgotten (uses q instr) then spoils q instr else []
 
--- `moved` says that pc has changed, so that a wait for a key has ended
+-- `moved` is true if pc has changed; for a wait for a key, that means that the wait has ended
 unfoldable pub sets : Quirks → (moved : Bool) → Instr → List ℕ
 sets q moved row.ClearScreen = screen_part ∷ []
 sets q moved row.LowSize = if q.clears_at_size then screen_part ∷ [] else []
@@ -197,12 +195,12 @@ abbrev pub draws : Option Instr → Bool
 draws (Some (row.Draw x y n)) = true
 draws instr = false
 
--- `place` is the place of the byte in the row of bytes that is written
+-- `place` is the index of the byte among the bytes that are written
 abbrev pub stored_part : Option Instr → (place : ℕ) → ℕ
 stored_part (Some (row.StoreDecimal x)) place = register_part x
 stored_part instr place = register_part place
 
--- three conditions: on the parts, on the bytes at pc, and on the bytes at I that are drawn
+-- there are three conditions: on the parts, on the bytes at pc, and on the bytes at I that are drawn
 pub record IsUnneeded (forgotten : ℕ) (s : State) : Type 0 where
   pub parts : list_all (λ part. not (has_part forgotten part))
       (parts_by (needs s.core.quirks) (next_instr s)) ≡ true
@@ -217,7 +215,7 @@ abbrev pub is_forgotten_by : (forgotten : ℕ) → (set spoiled : List ℕ) → 
 is_forgotten_by forgotten set spoiled part =
     has_part forgotten part && not (is_one_of set part) || is_one_of spoiled part
 
--- whether an address is one of `count` consecutive ones
+-- whether an address is one of `count` consecutive addresses from `start`
 abbrev pub is_in_row : (start count : ℕ) → (at : ℕ) → Bool
 is_in_row start count at = nat_le start at && nat_lt at (start + count)
 

@@ -21,7 +21,7 @@ pub record DifferOnlyAt (set : ℕ → Bool) (a b : State) : Type 0 where
 abbrev pub Misses : (ℕ → Bool) → List ℕ → Type 0
 Misses set addresses = All (λ at. IsFalse (set at)) addresses
 
--- the results of the same step from two states, if the step touches no address of the set
+-- the results of the same step from two states, if the step touches no address in the set
 pub record IsFramed (set : ℕ → Bool) (keys : ℕ) (tick : Bool) (a b : State) : Type 0 where
   pub same_touches : touches b ≡ touches a
   pub still_agree : DifferOnlyAt set (step_of a keys tick) (step_of b keys tick)
@@ -34,11 +34,11 @@ FrameLaw =
     (set : ℕ → Bool) (keys : ℕ) (tick : Bool) (a b : State) →
     IsProper a → IsProper b → DifferOnlyAt set a b → Misses set (touches a) → IsFramed set keys tick a b
 
--- a step keeps a state proper
+-- a step preserves that a state is proper
 abbrev pub StepKeepsProper : Type 0
 StepKeepsProper = (s : State) (keys : ℕ) (tick : Bool) → IsProper s → IsProper (step_of s keys tick)
 
--- a step keeps the quirks
+-- a step doesn't change the quirks
 abbrev pub StepKeepsQuirks : Type 0
 StepKeepsQuirks =
     (s : State) (keys : ℕ) (tick : Bool) → (step_of s keys tick).core.quirks ≡ s.core.quirks

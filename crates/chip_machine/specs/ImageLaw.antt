@@ -4,7 +4,7 @@ use Rattle.std.specs.Prelude.{◌≡◌, ◌-◌, ◌≤◌, ℕ, List, ◌++◌
 use Rattle.chip_lang.specs.declared.limits.TheConstants.{IMAGE_BYTES, IMAGE_START}
 use Rattle.chip_machine.specs.Start.{start_memory}
 
--- from the address of the image on, the memory holds the image and then zeros
+-- starting at the address of the image, the memory contains the image and then zeros
 abbrev pub ImageAndZeros : Type 0
 ImageAndZeros =
     (image : List ℕ) → length image ≤ IMAGE_BYTES

@@ -1,4 +1,4 @@
--- The numbers with which causes are printed: S1 to S7 for a stop, and M1 to M3 for a machine that
+-- The numbers that messages print for causes: S1 to S7 for a stop, and M1 to M3 for a machine that
 -- could not start.
 -- Source: chosen by this project.
 use Rattle.std.specs.Prelude.{ℕ}

@@ -1,6 +1,6 @@
 -- The screen of 128 columns and 64 rows, as the set of its lit pixels.
--- Source: SUPER-CHIP 1.1 documentation for the 128 by 64 points; this project chose that the low
--- size shares them.
+-- Source: SUPER-CHIP 1.1 documentation for the 128 by 64 pixels; this project chose that the low size
+-- uses the same stored pixels.
 use Rattle.std.specs.Prelude.{◌≡◌, ℕ, ◌-◌, ◌<◌, ◌==◌, Bool, true, not, nat_eq, map}
 use Rattle.std.specs.Int.{bit_at}
 use Rattle.std.specs.List.{flat_map, range_with_len}
@@ -29,7 +29,7 @@ points_code = set.code (coded× coded_ℕ coded_ℕ)
 abbrev pub is_lit : Points → ℕ → ℕ → Bool
 is_lit lit column row = set.contains lit (column, row)
 
--- whether a column is lit in a row of 128 bits; the leftmost column is the highest bit
+-- whether a column is lit in a row of 128 bits, in which the leftmost column is the highest bit
 abbrev pub lights : ℕ → ℕ → Bool
 lights bits column = bit_at bits (127 - column) == 1
 
@@ -47,10 +47,10 @@ points_where test = set.retain (rectangle 128 64) (λ p. test p.0 p.1)
 unfoldable pub symmetric_difference : Points → Points → Points
 symmetric_difference a b = set.union (set.difference a b) (set.difference b a)
 
--- whether two sets have a point in common
+-- whether two sets share a point
 unfoldable pub meets : Points → Points → Bool
 meets a b = not (nat_eq (set.len (set.intersection a b)) 0)
 
--- no point is outside the screen
+-- no point of the set is outside the screen
 abbrev pub IsOnScreen : Points → Type 0
 IsOnScreen lit = (column row : ℕ) → is_lit lit column row ≡ true → (column < 128) × (row < 64)

@@ -1,6 +1,6 @@
--- The machines that have names, and their quirks.
+-- The profiles, which are named sets of quirks.
 -- Source: COSMAC VIP manual; Gustafsson's CHIP-48; Bryntse's SUPER-CHIP 1.0 and 1.1; present-day
--- emulators for schip-modern; Octo's manual. Step.antt names for each quirk the machines that have
+-- emulators for schip-modern; Octo's manual. For each quirk, Step.antt names the machines that have
 -- it. This project chose what schip does with OR, AND and XOR.
 use Rattle.std.specs.Prelude.{ℕ, List, [], ◌∷◌, ◌&&◌, Bool, find, map, true, false, Option, Some, None}
 use Rattle.std.specs.Bool.{beq}
@@ -88,12 +88,12 @@ profiles =
 abbrev pub profile_named : List ℕ → Option Profile
 profile_named name = find (λ p. bytes_eq name (profile_name p)) profiles
 
--- the profile that a user asks for; SUPER-CHIP 1.1 if no name is given
+-- the profile that a user asks for; if no name is given, SUPER-CHIP 1.1
 abbrev pub profile_asked : Option (List ℕ) → Option Profile
 profile_asked None = Some profile.Schip
 profile_asked (Some name) = profile_named name
 
--- whether two machines have the same quirks
+-- whether two sets of quirks are the same
 abbrev pub is_move : IndexMove → IndexMove → Bool
 is_move index.Stays index.Stays = true
 is_move index.AtLast index.AtLast = true

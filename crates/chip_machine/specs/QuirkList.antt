@@ -1,11 +1,11 @@
--- The quirks under the names that users give them (chosen by this project).
+-- The quirks under the names that users write (chosen by this project).
 --     choice_named     the choice with a name
---     has_choice       whether a machine has a choice
---     with_choice      the quirks with one more choice; refused if that quirk was chosen before
+--     has_choice       whether a set of quirks includes a choice
+--     with_choice      the quirks with one more choice; None if that quirk was chosen before
 --     parts_of         the parts of a text between its commas
 --     with_choices     the quirks changed by the choices of a list
---     quirks_asked     the quirks of a profile, changed by the choices of a list; both may be left
---                      out
+--     quirks_asked     the quirks of a profile, changed by the choices of a list; both arguments are
+--                      optional
 use Rattle.std.specs.Prelude.{ℕ, ◌/◌, ◌%◌, ◌^◌, ◌==◌, Bool, List, [], ◌∷◌, fold, map, bit_or, Option, Some, None, option_and_then, option_map, if◌then◌else◌}
 use Rattle.std.specs.Bool.{beq}
 use Rattle.std.specs.Str.{bytes_eq}
@@ -16,7 +16,7 @@ use Rattle.chip_machine.specs.declared.quirks.Chosen.{Chosen}
 use Rattle.chip_machine.specs.declared.quirks.Quirks.{Quirks}
 use Rattle.chip_machine.specs.declared.quirks.TheConstants.{CHOICES}
 
--- the first of a list of choices that has the name
+-- the first choice in a list that has the name
 abbrev pub first_named : List ℕ → List (List ℕ × Choice) → Option Choice
 first_named name [] = None
 first_named name (c ∷ more) = if bytes_eq c.0 name then Some c.1 else first_named name more
@@ -24,7 +24,7 @@ first_named name (c ∷ more) = if bytes_eq c.0 name then Some c.1 else first_na
 abbrev pub choice_named : List ℕ → Option Choice
 choice_named name = first_named name (map (λ c. (c.0.now, c.1)) CHOICES)
 
--- the number of the quirk that a choice is about
+-- the number of the quirk that a choice sets
 abbrev pub number_of : Choice → ℕ
 number_of (choice.ShiftsSecond value) = 0
 number_of (choice.IndexMove value) = 1
@@ -50,7 +50,7 @@ with_quirk (choice.ClearsAtSize value) q = record q { clears_at_size = value }
 with_quirk (choice.FlagsOverflow value) q = record q { flags_overflow = value }
 with_quirk (choice.HasSuperInstructions value) q = record q { has_super_instructions = value }
 
--- whether a machine has a choice
+-- whether a set of quirks includes a choice
 abbrev pub has_choice : Quirks → Choice → Bool
 has_choice q (choice.ShiftsSecond value) = beq q.shifts_second value
 has_choice q (choice.IndexMove value) = is_move q.index_move value
@@ -87,11 +87,11 @@ parts_of [] = [] ∷ []
 parts_of (byte ∷ text) =
     if byte == comma then [] ∷ parts_of text else with_byte byte (parts_of text)
 
--- the quirks after the choices with these names, one after another
+-- the quirks after the choices with these names, one after the other
 abbrev pub chosen_by : Option Chosen → List (List ℕ) → Option Chosen
 chosen_by chosen names = fold (λ chosen name. with_choice chosen (choice_named name)) chosen names
 
--- None if a name is not that of a choice, or if a quirk is chosen twice
+-- None if a name isn't the name of a choice, or if a quirk is chosen twice
 abbrev pub with_choices : List ℕ → Quirks → Option Quirks
 with_choices list q =
     option_map (λ c. c.quirks)

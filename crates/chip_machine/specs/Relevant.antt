@@ -1,16 +1,16 @@
--- Which part of a state later steps depend on, if some of its parts are forgotten.
+-- The parts of a state that later steps depend on, if some of its parts are forgotten.
 -- Source: chosen by this project.
 --     Alike            two states agree in everything except the sound timer, the number of times
---                      that the tape was used up, and some forgotten parts and bytes; if they have
---                      stopped, so that they stay as they are, then no part that may be forgotten
---                      counts, and no byte does
---     AreNear          two values of I are the same, or both point at digits
---     AlikeSteps       the law: two states that are alike, with draws below the greatest count, are
---                      alike after the same step, except for what is forgotten after it, if the
---                      step needs nothing that is forgotten
---     DrawsGrow        the law: a step draws at most one random byte
---     QuietTick        the law: a step that leaves the delay timer at 0 does so whether or not the
---                      timers tick
+--                      that the tape was used up, and some forgotten parts and bytes. If the states
+--                      have stopped, they never change again, so they may also differ in every part
+--                      that can be forgotten and in every byte
+--     AreNear          two values of I are equal, or both point at digits
+--     AlikeSteps       the law: alike states are alike after the same step, except for what is forgotten
+--                      after it. The step must need nothing that is forgotten, and the counts of random
+--                      bytes used must be below their maximum
+--     DrawsGrow        the law: a step uses at most one random byte
+--     QuietTick        the law: if the delay timer is 0 after a step without a tick, a tick changes
+--                      nothing in that step except the sound timer
 use Rattle.std.specs.Prelude.{◌≡◌, ℕ, ◌+◌, ◌-◌, ◌%◌, ◌^◌, ◌<◌, ◌≤◌, ◌⊎◌, Bool, true, false, [], length, is_some, slice_index}
 use Rattle.std.specs.FinSet as set
 use Rattle.chip_machine.specs.declared.limits.TheConstants.{DIGITS_END}

@@ -1,7 +1,7 @@
 -- A machine that is restored from its parts.
 -- Source: chosen by this project.
 --     with_parts       a state with these parts, a silent sound timer and no stop cause
---     with_screen      a state with these rows of 128 pixels; the leftmost pixel is the highest bit
+--     with_screen      a state with these rows of 128 pixels, the leftmost pixel as the highest bit
 use Rattle.std.specs.Prelude.{ℕ, List, take, None}
 use Rattle.chip_machine.specs.State.{Core, State}
 use Rattle.chip_machine.specs.Step.{with_lit}

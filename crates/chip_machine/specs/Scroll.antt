@@ -1,4 +1,4 @@
--- Scrolls: the lit pixels move by n, and those that leave the screen are lost.
+-- Scrolls. The lit pixels move by n, and pixels that leave the screen are lost.
 -- Source: SUPER-CHIP 1.1 documentation.
 use Rattle.std.specs.Prelude.{ℕ, ◌+◌, ◌-◌, ◌&&◌, nat_le}
 use Rattle.chip_machine.specs.Points.{Points, points_where, is_lit}

@@ -8,7 +8,7 @@ use Rattle.chip_machine.specs.declared.quirks.Quirks.{Quirks}
 use Rattle.chip_machine.specs.Digits.{small_shapes, big_shapes, bytes_of}
 use Rattle.chip_machine.specs.State.{Core, State, overwrite}
 
--- a memory with the small digits written at 0, the big digits at 80 and the image at its address
+-- a memory with the small digits written at 0, the big digits at 80 and the image at `IMAGE_START`
 unfoldable pub with_digits_and_image : List ℕ → List ℕ → List ℕ
 with_digits_and_image image memory =
     overwrite (overwrite (overwrite memory 0 (bytes_of small_shapes)) 80 (bytes_of big_shapes))
@@ -18,11 +18,11 @@ with_digits_and_image image memory =
 unfoldable pub zeros : List ℕ
 zeros = replicate MEMORY_BYTES 0
 
--- the memory before the first step, which is 0 everywhere else
+-- the memory before the first step; all other bytes are 0
 abbrev pub start_memory : List ℕ → List ℕ
 start_memory image = with_digits_and_image image zeros
 
--- everything except the memory before the first step: the screen is dark and has its low size
+-- everything except the memory before the first step; the screen is dark and has its low size
 abbrev pub start_core : List ℕ → Quirks → Core
 start_core tape quirks =
     record {
@@ -45,6 +45,6 @@ start_core tape quirks =
 abbrev pub start_of : List ℕ → List ℕ → Quirks → State
 start_of image tape quirks = record { core = start_core tape quirks; memory = start_memory image }
 
--- a tape has at least one byte
+-- a tape has 1 to `TAPE_BYTES` bytes
 abbrev pub IsTape : List ℕ → Type 0
 IsTape tape = (0 < length tape) × (length tape ≤ TAPE_BYTES)

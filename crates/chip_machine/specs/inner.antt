@@ -1,10 +1,10 @@
--- Definitions and proofs that a reader may skip: how a state is stored (Codes, Stored), how many
--- bytes a row accesses (Accesses), what the functions that make a step promise (Performs), a sprite
--- by its bytes alone (SpriteBytes), a list of numbers as a mask (Masks), what is forgotten as a
--- number (Packed), the part of a text before its first comma (FirstPart), and which keys an
--- instruction can distinguish (KeyRows). Proofs of the laws that the trait of the crate above
--- requires are in Overwritten and Exchanged (memory after bytes were written, or exchanged) and
--- FrameTheorem (the frame law holds, and a step keeps a state proper).
+-- Definitions and proofs that a reader may skip. How a state is stored: Codes, Stored. How many bytes a
+-- row accesses: Accesses. The promises of the functions that execute a step: Performs. A sprite
+-- described only by its bytes: SpriteBytes. Lists of numbers as masks: Masks. The set of what is
+-- forgotten as a number: Packed. The part of a text before its first comma: FirstPart. The keys that an
+-- instruction can distinguish: KeyRows. Memory after bytes are written or exchanged: Overwritten,
+-- Exchanged. The frame law, and that a step preserves that a state is proper: FrameTheorem. The last
+-- three prove laws that the trait of the crate above requires.
 pub mod Accesses
 pub mod Codes
 pub mod Exchanged

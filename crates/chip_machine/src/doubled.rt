@@ -1,6 +1,6 @@
 //! Bytes with each bit doubled.
 
-/// For each byte, the 16 bits in which each of its bits occurs twice. The byte is the index.
+/// For each byte, which is the index, the 16 bits in which each of its bits occurs twice.
 pub(crate) static DOUBLED: [u16; 256] = [
     0x0000, 0x0003, 0x000c, 0x000f, 0x0030, 0x0033, 0x003c, 0x003f, 0x00c0, 0x00c3, 0x00cc, 0x00cf,
     0x00f0, 0x00f3, 0x00fc, 0x00ff, 0x0300, 0x0303, 0x030c, 0x030f, 0x0330, 0x0333, 0x033c, 0x033f,

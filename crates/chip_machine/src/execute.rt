@@ -11,7 +11,7 @@ use crate::stop::Stop;
 use crate::touch::Span;
 use chip_lang::instr::Instr;
 
-/// Carries out an instruction in a step. Returns the bytes that it accesses at I, or why the
+/// Executes an instruction in a step. Returns the span of bytes that it accesses at I, or why the
 /// machine stops.
 #[inline(always)]
 pub(crate) fn execute<K: HeldKeys>(

@@ -1,4 +1,4 @@
-//! The parts of a machine that a search forgets, and how a step changes them.
+//! The parts of a machine that a search forgets, and how a step changes the set of forgotten parts.
 
 ghost use Rattle.std.specs.Prelude.{◌≡◌, ◌≢◌, ℕ, ◌+◌, ◌/◌, ◌<◌, ◌≤◌, [], ◌∷◌, true, false, not, Some, IsTrue, IfOk, IfSome, if◌then◌else◌};
 ghost use Rattle.std.specs.List.{list_all};
@@ -13,39 +13,39 @@ use chip_lang::instr::Instr;
 use chip_lang::number::{Addr, Reg};
 use std::marker::Model;
 
-/// The mask of the part I.
+/// The mask of I.
 const INDEX: u32 = 1;
 
-/// The mask of the part that is the screen.
+/// The mask of the screen.
 const SCREEN: u32 = 1 << 1;
 
-/// The mask of the part that says whether I points at digits, for an I whose value is forgotten.
+/// The mask of the part that records whether I points at digits, even if the value of I is forgotten.
 const FAR: u32 = 1 << 2;
 
-/// The mask of the part VF.
+/// The mask of VF.
 const FLAG: u32 = 1 << 18;
 
-/// The mask of the parts that are registers.
+/// The mask of all registers.
 const REGISTERS: u32 = 0x7fff8;
 
-/// The number of bytes of the memory that can be forgotten: those of one window.
+/// The number of bytes of memory that can be forgotten at once, which is the size of one window.
 pub const WINDOW_BYTES: u16 = 64;
 
-/// The count of part numbers, including those of bytes.
+/// The number of part numbers, including those of bytes.
 pub const PARTS: u32 = PART_BITS + WINDOW_BYTES as u32;
 
-/// The count of part numbers that come before those of bytes.
+/// The number of part numbers that come before those of bytes.
 const PART_BITS: u32 = 32;
 
-/// A set of forgotten things: any of I, the screen, the registers, and bytes of the memory in a
-/// window.
+/// A set of forgotten parts and bytes: any of I, the screen and the registers, and any bytes of memory
+/// within one window.
 #[derive(Clone, Copy, PartialEq, Eq)]
 pub struct Forgotten {
-    /// I is bit 0, the screen bit 1, whether I points at digits bit 2, and Vx bit x + 3.
+    /// I is bit 0, the screen is bit 1, whether I points at digits is bit 2, and Vx is bit x + 3.
     parts: u32,
     /// The first address of the window.
     window: u16,
-    /// The byte at the first address of the window is bit 0, the next one bit 1, and so on.
+    /// The byte at the first address of the window is bit 0, the next byte is bit 1, and so on.
     bytes: u64,
 }
 
@@ -73,28 +73,28 @@ impl Forgotten {
         Forgotten::parts_alone(0)
     }
 
-    /// The set of I, the screen and all registers, and no byte.
+    /// The set of I, the screen and all registers, without any byte.
     pub fn all() -> Forgotten {
         Forgotten::parts_alone(INDEX | SCREEN | FAR | REGISTERS)
     }
 
-    /// The set of I alone.
+    /// The set that contains only I.
     pub fn index() -> Forgotten {
         Forgotten::parts_alone(INDEX | FAR)
     }
 
-    /// The set of the screen alone.
+    /// The set that contains only the screen.
     pub fn screen() -> Forgotten {
         Forgotten::parts_alone(SCREEN)
     }
 
-    /// The set of one register.
+    /// The set that contains only one register.
     pub fn register(x: Reg) -> Forgotten {
         Forgotten::parts_alone(register(x))
     }
 
-    /// The set of `count` bytes from an address on; a window has room for the first `WINDOW_BYTES`
-    /// of them.
+    /// The set of `count` bytes starting at an address. If `count` is above `WINDOW_BYTES`, only the first
+    /// `WINDOW_BYTES` bytes are in the set.
     pub fn bytes(at: u16, count: u16) -> Forgotten {
         let missing = WINDOW_BYTES.saturating_sub(count);
         let bytes = u64::MAX.checked_shr(u32::from(missing)).unwrap_or(0);
@@ -155,8 +155,8 @@ impl Forgotten {
         }
     }
 
-    /// The union of this set and `others`, except for bytes of `others` that don't fit into the
-    /// window, which is that of this set if it has bytes.
+    /// The union of this set and `others`, without the bytes of `others` that lie outside the window. The
+    /// window is that of this set if this set contains bytes, otherwise that of `others`.
     pub fn with(self, others: Forgotten) -> Forgotten {
         let window = if self.bytes == 0 {
             others.window
@@ -170,7 +170,7 @@ impl Forgotten {
         }
     }
 
-    /// The part or byte with this number alone, if it is in the set; otherwise nothing.
+    /// The set of only the part or byte with this number if it is in this set; otherwise the empty set.
     pub fn alone(self, number: u32) -> Forgotten {
         let mut one = Forgotten {
             parts: 0,
@@ -190,7 +190,7 @@ impl Forgotten {
         self.parts == 0 && self.bytes == 0
     }
 
-    /// The bytes moved to another window; those that it has no room for are lost.
+    /// The bits of the bytes, moved to another window. Bytes outside that window are lost.
     fn bytes_from(self, window: u16) -> u64 {
         let moved = if window >= self.window {
             self.bytes.checked_shr(u32::from(window - self.window))
@@ -239,7 +239,7 @@ impl Forgotten {
         self.bytes >> place & 1 == 1
     }
 
-    /// False only if none of `count` bytes from an address on is in the set.
+    /// False only if none of the `count` bytes starting at an address is in the set.
     #[inline(always)]
     pub fn has_one_of(self, at: u16, count: u16) -> bool
         ensures { result ≡ false → AreKept self at count }
@@ -283,7 +283,7 @@ impl Forgotten {
         self.parts & 1 == 1
     }
 
-    /// Whether the part is in the set that says whether I points at digits.
+    /// Whether the set contains the part that records whether I points at digits.
     pub fn has_far(self) -> bool
         ensures { result ≡ has_part self far_part }
     {
@@ -309,8 +309,8 @@ impl Forgotten {
         self.parts & REGISTERS == 0
     }
 
-    /// Returns what is forgotten after an instruction; `moved` says that the instruction changed
-    /// pc. If the instruction needs some of the forgotten parts, returns an error with these.
+    /// Returns what is forgotten after an instruction. `moved` is true if the instruction changed pc. If
+    /// the instruction needs some of the forgotten parts, returns an error that contains those parts.
     #[inline(always)]
     pub(crate) fn after(
         self,
@@ -349,10 +349,10 @@ impl Forgotten {
         }
     }
 
-    /// Adds the effect of the bytes at I that an instruction reads and writes to this set, which
-    /// holds what else is forgotten after the instruction; `before` was forgotten before it.
-    /// Returns an error with the forgotten bytes that it draws, or with a forgotten register that
-    /// it stores outside of the window.
+    /// Returns this set, which is what else is forgotten after an instruction, updated for the bytes at I
+    /// that the instruction reads and writes. `before` is what was forgotten before the instruction. The
+    /// error contains the forgotten bytes that the instruction draws, or a forgotten register that it
+    /// stores outside the window.
     #[inline]
     pub(crate) fn after_bytes(
         self,
@@ -384,7 +384,7 @@ impl Forgotten {
         loaded.with_stored(before, processor.index(), written, digits_of(instr))
     }
 
-    /// Adds the effect of the bytes at I that an instruction reads to this set.
+    /// Returns this set, updated for the bytes at I that an instruction reads.
     #[inline(always)]
     fn after_load(self, instr: &Instr, processor: &Processor) -> Result<Forgotten, Forgotten>
         ensures drawn { IfOk result (λ _. draws (Some instr.now) ≡ true
@@ -409,7 +409,7 @@ impl Forgotten {
         }
     }
 
-    /// The set after V0 to Vx were loaded from an address.
+    /// The set after V0 to Vx are loaded from an address.
     fn with_loaded(self, at: u16, x: Reg) -> Forgotten
         ensures parts { (part : ℕ) → has_part self part ≡ true → has_part result part ≡ true }
         ensures bytes { (k : ℕ) → has_byte result k ≡ has_byte self k }
@@ -437,9 +437,9 @@ impl Forgotten {
         }
     }
 
-    /// The set after `count` bytes were stored at an address, from the first registers or all from
-    /// one register. Returns an error with a register that was forgotten if the window has no room
-    /// for its byte.
+    /// The set after `count` bytes are stored at an address, either from V0 on or all from one register.
+    /// Returns an error with a forgotten register if the byte that it is stored in lies outside the
+    /// window.
     fn with_stored(
         self,
         before: Forgotten,
@@ -469,7 +469,7 @@ impl Forgotten {
         Ok(rest)
     }
 
-    /// The set after a byte was stored, forgotten or not; `None` if the window has no room for it.
+    /// The set after a byte, forgotten or not, is stored; `None` if the window can't cover the byte.
     fn with_stored_byte(self, at: usize, is_forgotten: bool) -> Option<Forgotten>
         ensures parts { IfSome result (λ after. (part : ℕ)
             → has_part after part ≡ has_part self part) }
@@ -485,7 +485,7 @@ impl Forgotten {
         }
     }
 
-    /// The set with one more byte; `None` if the window has no room for it.
+    /// The set with one more byte; `None` if the window can't cover that byte.
     fn with_byte(self, at: usize) -> Option<Forgotten>
         ensures parts { IfSome result (λ after. (part : ℕ)
             → has_part after part ≡ has_part self part) }
@@ -508,7 +508,7 @@ impl Forgotten {
     }
 }
 
-/// The given register, or otherwise the one with the number `place`.
+/// The given register, or the register with the number `place` if none is given.
 fn from_or(register: Option<u8>, place: u8) -> u8
     ensures { result ≡ from_or register place }
 {
@@ -639,7 +639,7 @@ fn spoils_of(instr: &Instr, quirks: Quirks) -> u32
     }
 }
 
-/// The register that a shift of Vx and Vy uses.
+/// The mask of the register that a shift of Vx and Vy uses.
 #[inline(always)]
 fn shifted(x: Reg, y: Reg, quirks: Quirks) -> u32
     ensures { result
@@ -652,8 +652,8 @@ fn shifted(x: Reg, y: Reg, quirks: Quirks) -> u32
     }
 }
 
-/// The register that a jump with an offset needs: V0, or the one that the address's top digit
-/// names.
+/// The mask of the register that a jump with an offset needs: V0, or the register named by the top
+/// digit of the address.
 #[inline(always)]
 fn offset_register(address: Addr, quirks: Quirks) -> u32
     ensures { result ≡ mask_of
@@ -666,8 +666,8 @@ fn offset_register(address: Addr, quirks: Quirks) -> u32
     }
 }
 
-/// The parts that an addition to I spoils, including VF if the quirks make it say how large the sum
-/// is.
+/// The parts that an addition to I spoils. VF is one of them if the quirks make the addition set VF to
+/// whether the sum is above 0FFF.
 #[inline(always)]
 fn spoilt_by_sum(quirks: Quirks) -> u32
     ensures { result ≡ mask_of (if quirks.flags_overflow then flag_part ∷ index_part ∷ far_part ∷ []

@@ -10,31 +10,31 @@ pub fn frame_law()
     ensures { FrameLaw }
 {}
 
-/// A step keeps a state proper.
+/// A step preserves that a state is proper.
 pub fn step_keeps_proper()
     ensures { StepKeepsProper }
 {}
 
-/// A step keeps the quirks.
+/// A step doesn't change the quirks.
 pub fn step_keeps_quirks()
     ensures { StepKeepsQuirks }
 {}
 
-/// A step that doesn't read the keys is the same whatever keys are down.
+/// A step that doesn't read the keys has the same result whichever keys are down.
 pub fn keyless_step()
     ensures { KeylessStep }
 {}
 
-/// Later steps depend neither on the sound timer, nor on how often the tape was used up, nor on
-/// forgotten parts that they don't read, nor on ticks while the delay timer stays at 0.
+/// Later steps don't depend on the sound timer, the number of times that the tape was used up, forgotten
+/// parts that they don't read, or ticks while the delay timer stays at 0.
 pub fn alike_steps()
     ensures alike { AlikeSteps }
     ensures draws { DrawsGrow }
     ensures quiet { QuietTick }
 {}
 
-/// At the start, the memory holds the image at its address and zeros after it, and nothing below
-/// that address depends on the image.
+/// At the start, the memory contains the image at its address and zeros after it. Nothing below that
+/// address depends on the image.
 pub fn image_at_the_start()
     ensures from_512 { ImageAndZeros }
     ensures below { SameBelowTheImage }

@@ -1,5 +1,5 @@
-//! A CHIP-8 machine with any mixture of quirks: its state, one step of it, and the addresses that a
-//! step touches.
+//! A CHIP-8 machine with any combination of quirks: its state, one step of it, and the addresses that
+//! a step touches.
 #![tactic(auto)]
 
 mod decoded;

@@ -8,8 +8,7 @@ ghost use Rattle.chip_machine.specs.Step.{span_at};
 use crate::limits::{MEMORY_BYTES, SPRITE_BYTES};
 use crate::stop::Stop;
 
-/// Reads `count` bytes at an address, or stops the machine if they reach past the end of the
-/// memory.
+/// Reads `count` bytes at an address. Stops the machine if they reach past the end of the memory.
 pub(crate) fn load(memory: &[u8], at: u16, count: usize) -> Result<&[u8], Stop>
     requires size { length memory.now ≡ MEMORY_BYTES }
     requires few { count ≤ SPRITE_BYTES }
@@ -34,7 +33,7 @@ pub(crate) fn write_at(memory: &mut [u8], at: usize, bytes: &[u8])
     memory[at..at + bytes.len()].copy_from_slice(bytes);
 }
 
-/// Writes bytes at an address, or stops the machine if they reach past the end of the memory.
+/// Writes bytes at an address. Stops the machine if they reach past the end of the memory.
 pub(crate) fn store(memory: &mut [u8], at: u16, bytes: &[u8]) -> Result<(), Stop>
     requires size { length memory.old ≡ MEMORY_BYTES }
     requires few { length bytes.now ≤ SPRITE_BYTES }
@@ -52,7 +51,7 @@ pub(crate) fn store(memory: &mut [u8], at: u16, bytes: &[u8]) -> Result<(), Stop
     Ok(())
 }
 
-/// Replaces the bytes of `old` by those of `new` wherever the two differ, and stores every other
+/// Writes the bytes of `new` over `bytes` wherever `new` differs from `old`, and leaves every other
 /// byte as it was.
 fn exchange_all(bytes: &mut [u8], old: &[u8], new: &[u8])
     requires old_alike { length old.now ≡ length bytes.old }
@@ -67,7 +66,7 @@ fn exchange_all(bytes: &mut [u8], old: &[u8], new: &[u8])
     }
 }
 
-/// Replaces the bytes of `old`, from an address on, by those of `new` wherever the two differ.
+/// Writes the bytes of `new`, starting at an address, wherever they differ from those of `old`.
 pub(crate) fn exchange_at(memory: &mut [u8], at: usize, old: &[u8], new: &[u8])
     requires alike { length old.now ≡ length new.now }
     requires in_memory { at + length new.now ≤ length memory.old }

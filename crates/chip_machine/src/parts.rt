@@ -1,15 +1,15 @@
-//! The parts of a machine other than its memory, its screen, its tape and its quirks.
+//! The parts of a machine except its memory, its screen's pixels, its tape and its quirks.
 
 use crate::limits::{FLAGS, FRAMES};
 
-/// The registers, the frames, the delay timer and the place on the tape of a machine that hasn't
-/// stopped, as data.
+/// The registers, call stack, delay timer, number of random bytes used and screen size of a machine
+/// that hasn't stopped.
 #[derive(Clone, Copy)]
 pub struct Parts {
     pub registers: [u8; 16],
     pub index: u16,
     pub pc: u16,
-    /// The return addresses; the first `depth` of them belong to open calls.
+    /// The return addresses; the first `depth` of them are those of open calls.
     pub frames: [u16; FRAMES],
     pub depth: u8,
     pub delay: u8,

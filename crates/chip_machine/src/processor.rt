@@ -29,11 +29,10 @@ use std::alloc::{AllocError, Global};
 use std::marker::Model;
 use std::rc::RcSlice;
 
-/// The registers, and everything else that is not memory.
+/// The registers and everything else in a machine except its memory.
 #[derive(Drop)]
 pub(crate) struct Processor {
-    // declared before the registers, so that the compiler knows that a store to those leaves it
-    // alone
+    // declared before the registers, so that the compiler knows that a store to them leaves pc unchanged
     pc: u16,
     index: u16,
     registers: [u8; 16],
@@ -45,7 +44,7 @@ pub(crate) struct Processor {
     /// Shared with the copies of this machine.
     tape: RcSlice<u8>,
     draws: u64,
-    /// The place of the next random byte on the tape.
+    /// The position of the next random byte on the tape.
     place: usize,
     screen: Screen,
     high: bool,
@@ -87,7 +86,7 @@ impl Model for Processor {
 }
 
 impl Processor {
-    /// Returns the processor at the start: everything is 0, and pc is at the image. Fails only if
+    /// Returns the processor at the start: pc points at the image, and everything else is 0. Fails only if
     /// memory runs out.
     pub(crate) fn new(alloc: Global, tape: &[u8], quirks: Quirks) -> Result<Self, AllocError>
         requires { IsTape tape.now }
@@ -137,8 +136,7 @@ impl Processor {
         })
     }
 
-    /// Takes over the state of another processor. Fails if memory runs out, and then changes
-    /// nothing.
+    /// Copies the state of another processor into this one. If memory runs out, fails and changes nothing.
     pub(crate) fn copy_from(&mut self, other: &Processor) -> Result<(), AllocError>
         ensures ok { OnOk result (self.new ≡ other.now) }
         ensures err { OnErr result (self.new ≡ self.old) }
@@ -161,7 +159,7 @@ impl Processor {
         Ok(())
     }
 
-    /// The place of the next random byte on the tape.
+    /// The position of the next random byte on the tape.
     pub(crate) fn place(&self) -> usize
         ensures place { result ≡ self.now.draws % length self.now.tape }
         ensures in_range { result < TAPE_BYTES }
@@ -169,7 +167,7 @@ impl Processor {
         self.place
     }
 
-    /// Takes over these parts, silences the sound timer and clears the stop cause.
+    /// Restores these parts, sets the sound timer to 0 and clears the stop cause.
     pub(crate) fn restore(&mut self, parts: &Parts)
         requires { parts.now.depth ≤ FRAMES }
         ensures { self.new ≡ core_with_parts parts.now self.old }
@@ -188,7 +186,7 @@ impl Processor {
         self.stopped = None;
     }
 
-    /// Replaces the screen's pixels by these rows.
+    /// Replaces the screen's pixels with these rows.
     pub(crate) fn set_rows(&mut self, rows: &[u128])
         requires { length rows.now ≡ 64 }
         ensures { self.new ≡ with_lit (in_rows rows.now) self.old }
@@ -196,7 +194,7 @@ impl Processor {
         self.screen.set_rows(rows);
     }
 
-    /// True only if another processor agrees in everything that later steps depend on, given the
+    /// True only if this processor and `other` agree in everything that later steps depend on, given the
     /// forgotten parts.
     pub(crate) fn is_alike(&self, other: &Processor, forgotten: Forgotten) -> bool
         ensures { IsTrue result → (memory : List ℕ) → length memory ≡ MEMORY_BYTES
@@ -210,7 +208,7 @@ impl Processor {
             && (forgotten.has_screen() || self.screen.is_same(&other.screen))
     }
 
-    /// True only if another processor agrees in everything that can't be forgotten.
+    /// True only if this processor and `other` agree in everything that can't be forgotten.
     fn has_same_others(&self, other: &Processor) -> bool
         ensures others { IsTrue result → others self.now ≡ others other.now }
         ensures draws { IsTrue result → self.now.draws % length self.now.tape
@@ -241,7 +239,7 @@ impl Processor {
         self.registers[x.number() as usize] = value;
     }
 
-    /// Sets a register, and then VF, which comes last.
+    /// Sets a register and then VF, which is written last.
     pub(crate) fn set_with_flag(&mut self, x: Reg, value: u8, flag: u8)
         ensures { self.new ≡ with_flag x value flag self.old }
     {
@@ -262,7 +260,7 @@ impl Processor {
         }
     }
 
-    /// The value that a shift of Vx and Vy shifts: that of Vx or of Vy, by the quirks.
+    /// The value that a shift of Vx and Vy shifts: that of Vx or of Vy, depending on the quirks.
     pub(crate) fn shifted(&self, x: Reg, y: Reg) -> u8
         ensures { result ≡ reg self.now (shifted_register x y self.now) }
     {
@@ -273,8 +271,8 @@ impl Processor {
         }
     }
 
-    /// The value that a jump adds to its address: that of V0, or of the register that the address's
-    /// top digit names.
+    /// The value that a jump adds to its address: that of V0, or of the register that the top digit of the
+    /// address names.
     pub(crate) fn jump_offset(&self, address: Addr) -> u8
         ensures { result ≡ reg self.now (offset_register address self.now) }
     {
@@ -293,7 +291,7 @@ impl Processor {
         self.quirks
     }
 
-    /// Sets a register to the result of a logical operation. VF stays or becomes 0, by the quirks.
+    /// Sets a register to the result of a logical operation. VF stays or becomes 0, depending on the quirks.
     pub(crate) fn set_logic(&mut self, x: Reg, value: u8)
         ensures { self.new ≡ with_logic x value self.old }
     {
@@ -304,7 +302,7 @@ impl Processor {
         }
     }
 
-    /// Adds a number to I. VF stays or says whether the sum is above 0FFF, by the quirks.
+    /// Adds a number to I. Depending on the quirks, VF stays or is set to whether the sum is above 0FFF.
     pub(crate) fn add_index(&mut self, value: u8)
         ensures { self.new ≡ with_sum value self.old }
     {
@@ -315,7 +313,7 @@ impl Processor {
         }
     }
 
-    /// Ends a move of V0 to Vx to or from the memory: I stays or moves on, by the quirks.
+    /// Updates I after V0 to Vx were moved to or from memory. I stays or advances, depending on the quirks.
     pub(crate) fn finish_move(&mut self, x: Reg)
         ensures { self.new
             ≡ with_index (index_past self.old.quirks.index_move x self.old.index) self.old }
@@ -327,8 +325,8 @@ impl Processor {
         }
     }
 
-    /// Whether a sprite draws nothing: true for row count 0 in the low size, unless the quirks give
-    /// it sixteen rows.
+    /// Whether a sprite draws nothing. True if the row count is 0 in the low size, unless the quirks make
+    /// that sixteen rows.
     pub(crate) fn draws_nothing(&self, n: Nibble) -> bool
         ensures { result ≡ draws_nothing n self.now }
     {
@@ -340,7 +338,7 @@ impl Processor {
             }
     }
 
-    /// The number of bytes of a sprite of `n` rows; `n` = 0 stands for sixteen rows, which may be
+    /// The number of bytes of a sprite of `n` rows. If `n` is 0, the sprite has sixteen rows, which may be
     /// wide.
     pub(crate) fn sprite_bytes(&self, n: Nibble) -> usize
         ensures value { result ≡ sprite_bytes (has_wide_sixteen self.now) n }
@@ -353,7 +351,7 @@ impl Processor {
         }
     }
 
-    /// Whether a sprite of sixteen rows is 16 wide.
+    /// Whether each row of a sixteen-row sprite is 16 pixels wide.
     fn has_wide_sixteen(&self) -> bool
         ensures { result ≡ has_wide_sixteen self.now }
     {
@@ -364,7 +362,7 @@ impl Processor {
             }
     }
 
-    /// The number of stored rows or columns in a scroll by `n`.
+    /// The number of stored rows or columns that a scroll by `n` moves pixels.
     pub(crate) fn scrolled_by(&self, n: u8) -> usize
         ensures value { result ≡ scrolled_by n self.now }
         ensures few { result ≤ 2 * n }
@@ -412,7 +410,7 @@ impl Processor {
         self.pc += 2;
     }
 
-    /// Moves pc to the next instruction, or past it if `test` is true.
+    /// Moves pc to the next instruction, or past that instruction if `test` is true.
     pub(crate) fn skip_if(&mut self, test: bool)
         requires { self.old.pc ≤ LAST_WORD }
         ensures { self.new ≡ skip_if test self.old }
@@ -482,7 +480,7 @@ impl Processor {
         self.pc = address;
     }
 
-    /// Returns to the address of the newest frame, and removes that frame.
+    /// Jumps to the newest return address, and removes it from the call stack.
     pub(crate) fn leave(&mut self)
         requires { 0 < length self.old.frames }
         ensures { self.new ≡ return self.old }
@@ -491,7 +489,7 @@ impl Processor {
         self.pc = self.frames[self.depth];
     }
 
-    /// Returns the next random byte, and counts it as used.
+    /// Returns the next random byte and counts it as used.
     pub(crate) fn draw_random(&mut self) -> u8
         ensures value { result ≡ random_byte self.old }
         ensures after { self.new ≡ drawn self.old }
@@ -525,7 +523,7 @@ impl Processor {
         self.registers[..count].copy_from_slice(&flags[..count]);
     }
 
-    /// Sets the first registers to these bytes.
+    /// Sets the first registers to these bytes, starting with V0.
     pub(crate) fn load(&mut self, bytes: &[u8])
         requires { length bytes.now ≤ 16 }
         ensures { self.new ≡ load_registers self.old bytes.now }
@@ -551,14 +549,14 @@ impl Processor {
         self.screen.row(row)
     }
 
-    /// True if the screen has its high size.
+    /// Whether the screen has its high size.
     pub(crate) fn high(&self) -> bool
         ensures { result ≡ self.now.high }
     {
         self.high
     }
 
-    /// Sets the size of the screen. The pixels stay or become dark, by the quirks.
+    /// Sets the size of the screen. The pixels stay or become dark, depending on the quirks.
     pub(crate) fn resize(&mut self, high: bool)
         ensures { self.new ≡ resized high self.old }
     {
@@ -605,7 +603,7 @@ impl Processor {
         self.registers[15] = 0;
     }
 
-    /// Draws a sprite, whose length gives its number of rows, and sets VF to whether it covers a
+    /// Draws a sprite, whose number of rows follows from its length, and sets VF to whether it covers a
     /// pixel that was lit.
     #[inline(always)]
     pub(crate) fn draw(&mut self, x: u8, y: u8, sprite: &[u8])
@@ -669,14 +667,14 @@ impl Processor {
     }
 }
 
-/// True only if two values of I are the same or both point at digits.
+/// True only if two values of I are equal or both point at digits.
 fn are_near(mine: u16, theirs: u16) -> bool
     ensures { IsTrue result → AreNear mine theirs }
 {
     mine == theirs || mine < DIGITS_END && theirs < DIGITS_END
 }
 
-/// True only if two machines have the same value in each register that isn't forgotten.
+/// True only if two machines have equal values in each register that isn't forgotten.
 #[inline]
 fn have_same_values(mine: &[u8], theirs: &[u8], forgotten: Forgotten) -> bool
     requires sixteen { length mine.now ≡ 16 }
@@ -696,7 +694,7 @@ fn have_same_values(mine: &[u8], theirs: &[u8], forgotten: Forgotten) -> bool
     true
 }
 
-/// The next place on a tape. After the last place, the first one follows.
+/// The next position on a tape. The last position is followed by the first.
 #[inline(always)]
 fn next_place(place: usize, tape_len: usize) -> usize
     requires { place < tape_len }

@@ -1,11 +1,11 @@
-//! The machines that have names.
+//! The profiles: named sets of quirks.
 
 ghost use Rattle.std.specs.Prelude.{◌≡◌, ◌≢◌, ◌↔◌, None, Some, IfSome, IsSome, Contains, option_copied};
 ghost use Rattle.chip_machine.specs.Profile.{profile_asked, profile_name, profile_named, profile_names, profile_with, quirks};
 
 use crate::quirks::{IndexMove, LowSixteen, Quirks};
 
-/// A machine that has a name. Its quirks decide what some instructions do.
+/// A named set of quirks, which decide what some instructions do.
 #[derive(Clone, Copy, PartialEq, Eq)]
 pub enum Profile {
     /// SUPER-CHIP 1.1, with this project's choices.
@@ -127,7 +127,7 @@ impl Profile {
         }
     }
 
-    /// The profile with a name, or `None` if no profile has it. Without a name, the profile is
+    /// The profile with a name, or `None` if no profile has that name. If no name is given, the profile is
     /// SUPER-CHIP 1.1.
     pub fn asked(name: Option<&str>) -> Option<Self>
         ensures { result ≡ profile_asked (option_copied name.entry) }
@@ -138,7 +138,7 @@ impl Profile {
         }
     }
 
-    /// The profile with a name, or `None` if no profile has it.
+    /// The profile with a name, or `None` if no profile has that name.
     pub fn from_name(name: &str) -> Option<Self>
         ensures named { (p : Profile) → (result ≡ Some p) ↔ (name.now ≡ profile_name p) }
         ensures listed { IsSome result ↔ Contains profile_names name.now }

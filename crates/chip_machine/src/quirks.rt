@@ -1,4 +1,4 @@
-//! The points in which one machine differs from another.
+//! Quirks, the ways in which CHIP-8 machines differ.
 
 ghost use Rattle.std.specs.Prelude.{◌≡◌, ◌<◌, IsTrue, map, option_copied};
 ghost use Rattle.chip_machine.specs.QuirkList.{choice_named, choices_asked, first_named, has_choice, number_of, with_choice, with_choices, with_quirk};
@@ -6,18 +6,18 @@ ghost use Rattle.chip_machine.specs.inner.FirstPart.{IsFirstPart};
 
 use memchr::memchr;
 
-/// The place where `FX55` and `FX65` leave I.
+/// The value that `FX55` and `FX65` leave in I.
 #[derive(Clone, Copy, PartialEq, Eq)]
 pub enum IndexMove {
     /// I is unchanged.
     Stays,
-    /// I is at the byte of the last register, I + x.
+    /// I is the address of the last register's byte, I + x.
     AtLast,
-    /// I is behind that byte, at I + x + 1.
+    /// I is the address after that byte, I + x + 1.
     PastLast,
 }
 
-/// The picture that `DXY0` draws in the low size.
+/// The sprite that `DXY0` draws in the low size.
 #[derive(Clone, Copy, PartialEq, Eq)]
 pub enum LowSixteen {
     /// No pixel.
@@ -28,35 +28,33 @@ pub enum LowSixteen {
     Wide,
 }
 
-/// The points in which one machine differs from another. Each field chooses between effects of the
-/// instructions that it names.
+/// The ways in which CHIP-8 machines differ. Each field chooses between effects of the instructions
+/// that its comment names.
 #[derive(Clone, Copy, PartialEq, Eq)]
 pub struct Quirks {
-    /// `8XY6` and `8XYE` shift Vy into Vx, instead of Vx itself.
+    /// `8XY6` and `8XYE` shift Vy and put the result into Vx, instead of shifting Vx.
     pub shifts_second: bool,
-    /// `FX55` and `FX65` leave I where it was, at I + x, or at I + x + 1.
+    /// `FX55` and `FX65` leave I unchanged, at I + x, or at I + x + 1.
     pub index_move: IndexMove,
     /// `BNNN` adds V0, instead of the register that the address's top digit names.
     pub jumps_by_first: bool,
-    /// `8XY1`, `8XY2` and `8XY3` set VF to 0, instead of leaving it as it was.
+    /// `8XY1`, `8XY2` and `8XY3` set VF to 0, instead of leaving it unchanged.
     pub clears_flag: bool,
-    /// `DXYN` draws anything past an edge at the other side, instead of leaving it out.
+    /// `DXYN` wraps anything past an edge to the opposite side, instead of clipping it.
     pub wraps: bool,
-    /// `DXY0` in the low size draws nothing, sixteen rows of 8 pixels, or of 16.
+    /// `DXY0` in the low size draws nothing, sixteen rows of 8 pixels, or sixteen rows of 16 pixels.
     pub low_sixteen: LowSixteen,
-    /// `00CN`, `00FB` and `00FC` in the low size move by pixels of that size, instead of stored
-    /// ones.
+    /// `00CN`, `00FB` and `00FC` in the low size scroll by pixels of that size, instead of stored pixels.
     pub scrolls_whole: bool,
-    /// `00FE` and `00FF` make all pixels dark, instead of leaving them as they were.
+    /// `00FE` and `00FF` make all pixels dark, instead of leaving them unchanged.
     pub clears_at_size: bool,
-    /// `FX1E` sets VF to 1 if I + Vx is above `0FFF` and otherwise to 0, instead of leaving it as
-    /// it was.
+    /// `FX1E` sets VF to 1 if I + Vx is above `0FFF` and otherwise to 0, instead of leaving VF unchanged.
     pub flags_overflow: bool,
     /// `00CN`, `00FB` to `00FF`, `FX30`, `FX75` and `FX85` are instructions, as on a SUPER-CHIP.
     pub has_super_instructions: bool,
 }
 
-/// A choice of one quirk.
+/// A value chosen for one quirk.
 #[derive(Clone, Copy, PartialEq, Eq)]
 pub enum Choice {
     ShiftsSecond(bool),
@@ -71,7 +69,7 @@ pub enum Choice {
     HasSuperInstructions(bool),
 }
 
-/// The choices by the names that users give them.
+/// The choices, each with the name that users write.
 pub const CHOICES: [(&str, Choice); 22] = [
     ("shift=vx", Choice::ShiftsSecond(false)),
     ("shift=vy", Choice::ShiftsSecond(true)),
@@ -97,7 +95,7 @@ pub const CHOICES: [(&str, Choice); 22] = [
     ("instructions=base", Choice::HasSuperInstructions(false)),
 ];
 
-/// The quirks, each with its values, as texts for users list them.
+/// The quirks, each with its values, as help and messages list them.
 pub const QUIRKS: [&str; 10] = [
     "shift=vx|vy",
     "memory=keep|x|x+1",
@@ -111,7 +109,7 @@ pub const QUIRKS: [&str; 10] = [
     "instructions=super|base",
 ];
 
-/// Quirks, and which of them were chosen, quirk k at bit k.
+/// Quirks, and a mask of the quirks that were chosen, with quirk k at bit k.
 #[derive(Clone, Copy)]
 pub struct Chosen {
     pub quirks: Quirks,
@@ -119,14 +117,14 @@ pub struct Chosen {
 }
 
 impl Choice {
-    /// The choice with a name, such as `shift=vy`, or `None` for any other text.
+    /// The choice with a name such as `shift=vy`, or `None` if no choice has that name.
     fn from_name(name: &[u8]) -> Option<Choice>
         ensures { result ≡ choice_named name.now }
     {
         first_named(&CHOICES, name)
     }
 
-    /// The number of the quirk, 0 to 9.
+    /// The number of the quirk that this choice sets, 0 to 9.
     fn number(self) -> u32
         ensures value { result ≡ number_of self }
         ensures few { result < 10 }
@@ -145,7 +143,7 @@ impl Choice {
         }
     }
 
-    /// The quirks after this choice.
+    /// The given quirks with this choice applied.
     fn put_in(self, quirks: Quirks) -> Quirks
         ensures { result ≡ with_quirk self quirks }
     {
@@ -181,14 +179,14 @@ impl Quirks {
         has_super_instructions: true,
     };
 
-    /// True only if the other quirks are the same.
+    /// True only if `other` contains the same quirks.
     pub(crate) fn is_same(self, other: Quirks) -> bool
         ensures { IsTrue result → self ≡ other }
     {
         self == other
     }
 
-    /// Whether this machine has a choice.
+    /// Whether these quirks include a choice.
     pub fn has(self, choice: Choice) -> bool
         ensures { result ≡ has_choice self choice }
     {
@@ -206,7 +204,7 @@ impl Quirks {
         }
     }
 
-    /// The quirks after the choices of a list, if one is given; `None` if the list is not valid.
+    /// These quirks with the choices of a list applied, if a list is given; `None` if the list is invalid.
     pub fn asked(self, list: Option<&str>) -> Option<Quirks>
         ensures { result ≡ choices_asked (option_copied list.entry) self }
     {
@@ -216,7 +214,7 @@ impl Quirks {
         }
     }
 
-    /// The quirks after the choices of a comma-separated list; `None` if an item is not a choice,
+    /// These quirks with the choices of a comma-separated list applied; `None` if an item is not a choice,
     /// or if a quirk is chosen twice.
     pub fn with_choices(self, list: &[u8]) -> Option<Quirks>
         ensures { result ≡ with_choices list.now self }
@@ -237,7 +235,7 @@ impl Quirks {
     }
 }
 
-/// The first of a list of choices that has this name.
+/// The first choice in a list that has this name.
 fn first_named(choices: &[(&str, Choice)], name: &[u8]) -> Option<Choice>
     ensures { result ≡ first_named name.now (map (λ c. (c.0.now, c.1)) choices.now) }
 {
@@ -250,7 +248,7 @@ fn first_named(choices: &[(&str, Choice)], name: &[u8]) -> Option<Choice>
     None
 }
 
-/// The part before the first comma, and the rest after it if there is a comma.
+/// The part before the first comma, and the rest after that comma if there is one.
 fn first_part(text: &[u8]) -> (&[u8], Option<&[u8]>)
     ensures { IsFirstPart text.now result.0.now (option_copied result.1) }
 {
@@ -260,7 +258,7 @@ fn first_part(text: &[u8]) -> (&[u8], Option<&[u8]>)
     }
 }
 
-/// The quirks with one more choice; `None` if there is no choice or its quirk was chosen before.
+/// The quirks with one more choice; `None` if there is no choice or its quirk was already chosen.
 fn with_choice(chosen: Option<Chosen>, choice: Option<Choice>) -> Option<Chosen>
     ensures { result ≡ with_choice chosen choice }
 {

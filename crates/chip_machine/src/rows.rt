@@ -1,4 +1,4 @@
-//! The rows of the instruction table, with a method for each.
+//! One method for each row of the instruction table.
 
 ghost use Rattle.std.specs.Prelude.{◌≡◌, ◌≤◌, length};
 ghost use Rattle.chip_machine.specs.Step.{effect, Changes, Stops};
@@ -15,14 +15,14 @@ use chip_lang::number::{Addr, Nibble, Reg};
 
 #[tactic(auto, unfolding(crate::specs::Step::effect))]
 impl Processor {
-    /// `1NNN`, `JP a`: goes to a.
+    /// `1NNN`, `JP a`: jumps to a.
     pub(crate) fn row_jump(&mut self, address: Addr)
         ensures { effect (Instr.Jump address) self.old ≡ Changes self.new }
     {
         self.go_to(address.number());
     }
 
-    /// `3XKK`, `SE Vx, kk`: skips if Vx is kk.
+    /// `3XKK`, `SE Vx, kk`: skips the next instruction if Vx is kk.
     pub(crate) fn row_skip_if_byte(&mut self, x: Reg, byte: u8)
         requires { self.old.pc ≤ LAST_WORD }
         ensures { effect (Instr.SkipIfByte x byte) self.old ≡ Changes self.new }
@@ -31,7 +31,7 @@ impl Processor {
         self.skip_if(same);
     }
 
-    /// `4XKK`, `SNE Vx, kk`: skips if Vx is not kk.
+    /// `4XKK`, `SNE Vx, kk`: skips the next instruction if Vx is not kk.
     pub(crate) fn row_skip_unless_byte(&mut self, x: Reg, byte: u8)
         requires { self.old.pc ≤ LAST_WORD }
         ensures { effect (Instr.SkipUnlessByte x byte) self.old ≡ Changes self.new }
@@ -40,7 +40,7 @@ impl Processor {
         self.skip_if(!same);
     }
 
-    /// `5XY0`, `SE Vx, Vy`: skips if Vx is Vy.
+    /// `5XY0`, `SE Vx, Vy`: skips the next instruction if Vx is Vy.
     pub(crate) fn row_skip_if_equal(&mut self, x: Reg, y: Reg)
         requires { self.old.pc ≤ LAST_WORD }
         ensures { effect (Instr.SkipIfEqual x y) self.old ≡ Changes self.new }
@@ -49,7 +49,7 @@ impl Processor {
         self.skip_if(same);
     }
 
-    /// `9XY0`, `SNE Vx, Vy`: skips if Vx is not Vy.
+    /// `9XY0`, `SNE Vx, Vy`: skips the next instruction if Vx is not Vy.
     pub(crate) fn row_skip_unless_equal(&mut self, x: Reg, y: Reg)
         requires { self.old.pc ≤ LAST_WORD }
         ensures { effect (Instr.SkipUnlessEqual x y) self.old ≡ Changes self.new }
@@ -67,7 +67,7 @@ impl Processor {
         self.advance();
     }
 
-    /// `7XKK`, `ADD Vx, kk`: adds kk to Vx, with no flag.
+    /// `7XKK`, `ADD Vx, kk`: adds kk to Vx and leaves VF unchanged, unless Vx is VF.
     pub(crate) fn row_add_byte(&mut self, x: Reg, byte: u8)
         requires { self.old.pc ≤ LAST_WORD }
         ensures { effect (Instr.AddByte x byte) self.old ≡ Changes self.new }
@@ -87,7 +87,7 @@ impl Processor {
         self.advance();
     }
 
-    /// `8XY1`, `OR Vx, Vy`: or; VF stays or becomes 0.
+    /// `8XY1`, `OR Vx, Vy`: Vx becomes the bitwise or of Vx and Vy; VF stays or becomes 0.
     pub(crate) fn row_or(&mut self, x: Reg, y: Reg)
         requires { self.old.pc ≤ LAST_WORD }
         ensures { effect (Instr.Or x y) self.old ≡ Changes self.new }
@@ -97,7 +97,7 @@ impl Processor {
         self.advance();
     }
 
-    /// `8XY2`, `AND Vx, Vy`: and; VF stays or becomes 0.
+    /// `8XY2`, `AND Vx, Vy`: Vx becomes the bitwise and of Vx and Vy; VF stays or becomes 0.
     pub(crate) fn row_and(&mut self, x: Reg, y: Reg)
         requires { self.old.pc ≤ LAST_WORD }
         ensures { effect (Instr.And x y) self.old ≡ Changes self.new }
@@ -107,7 +107,7 @@ impl Processor {
         self.advance();
     }
 
-    /// `8XY3`, `XOR Vx, Vy`: exclusive or; VF stays or becomes 0.
+    /// `8XY3`, `XOR Vx, Vy`: Vx becomes the exclusive or of Vx and Vy; VF stays or becomes 0.
     pub(crate) fn row_xor(&mut self, x: Reg, y: Reg)
         requires { self.old.pc ≤ LAST_WORD }
         ensures { effect (Instr.Xor x y) self.old ≡ Changes self.new }
@@ -117,7 +117,7 @@ impl Processor {
         self.advance();
     }
 
-    /// `8XY4`, `ADD Vx, Vy`: adds Vy to Vx; VF says whether the sum passes 255.
+    /// `8XY4`, `ADD Vx, Vy`: adds Vy to Vx; VF becomes 1 if the sum is above 255, otherwise 0.
     pub(crate) fn row_add(&mut self, x: Reg, y: Reg)
         requires { self.old.pc ≤ LAST_WORD }
         ensures { effect (Instr.Add x y) self.old ≡ Changes self.new }
@@ -129,7 +129,7 @@ impl Processor {
         self.advance();
     }
 
-    /// `8XY5`, `SUB Vx, Vy`: subtracts Vy from Vx; VF says whether Vx was at least Vy.
+    /// `8XY5`, `SUB Vx, Vy`: subtracts Vy from Vx; VF becomes 1 if Vx was at least Vy, otherwise 0.
     pub(crate) fn row_subtract(&mut self, x: Reg, y: Reg)
         requires { self.old.pc ≤ LAST_WORD }
         ensures { effect (Instr.Subtract x y) self.old ≡ Changes self.new }
@@ -140,7 +140,7 @@ impl Processor {
         self.advance();
     }
 
-    /// `8XY7`, `SUBN Vx, Vy`: Vx becomes Vy minus Vx; VF says whether Vy was at least Vx.
+    /// `8XY7`, `SUBN Vx, Vy`: Vx becomes Vy minus Vx; VF becomes 1 if Vy was at least Vx, otherwise 0.
     pub(crate) fn row_subtract_from(&mut self, x: Reg, y: Reg)
         requires { self.old.pc ≤ LAST_WORD }
         ensures { effect (Instr.SubtractFrom x y) self.old ≡ Changes self.new }
@@ -151,7 +151,7 @@ impl Processor {
         self.advance();
     }
 
-    /// `8XY6`, `SHR Vx, Vy`: Vx becomes Vx or Vy shifted right by one bit, and VF gets the bit
+    /// `8XY6`, `SHR Vx, Vy`: Vx becomes Vx or Vy shifted right by one bit, and VF becomes the bit that was
     /// shifted out.
     pub(crate) fn row_shift_right(&mut self, x: Reg, y: Reg)
         requires { self.old.pc ≤ LAST_WORD }
@@ -162,7 +162,7 @@ impl Processor {
         self.advance();
     }
 
-    /// `8XYE`, `SHL Vx, Vy`: Vx becomes Vx or Vy shifted left by one bit, and VF gets the bit
+    /// `8XYE`, `SHL Vx, Vy`: Vx becomes Vx or Vy shifted left by one bit, and VF becomes the bit that was
     /// shifted out.
     pub(crate) fn row_shift_left(&mut self, x: Reg, y: Reg)
         requires { self.old.pc ≤ LAST_WORD }
@@ -182,7 +182,7 @@ impl Processor {
         self.advance();
     }
 
-    /// `BNNN`, `JP V0, a`: goes to a + Vx, where x is 0 or the top digit of a.
+    /// `BNNN`, `JP V0, a`: jumps to a + Vx, where x is 0 or the top digit of a.
     pub(crate) fn row_jump_offset(&mut self, address: Addr)
         ensures { effect (Instr.JumpOffset address) self.old ≡ Changes self.new }
     {
@@ -190,7 +190,7 @@ impl Processor {
         self.go_to(address.number() + u16::from(offset));
     }
 
-    /// `CXKK`, `RND Vx, kk`: Vx becomes the next random byte, masked by kk.
+    /// `CXKK`, `RND Vx, kk`: Vx becomes the next random byte, masked with kk.
     pub(crate) fn row_random(&mut self, x: Reg, byte: u8)
         requires { self.old.pc ≤ LAST_WORD }
         ensures { effect (Instr.Random x byte) self.old ≡ Changes self.new }
@@ -230,7 +230,7 @@ impl Processor {
         self.advance();
     }
 
-    /// `FX1E`, `ADD I, Vx`: adds Vx to I; VF stays or says whether the sum is above 0FFF.
+    /// `FX1E`, `ADD I, Vx`: adds Vx to I; VF stays or is set to whether the sum is above 0FFF.
     pub(crate) fn row_add_index(&mut self, x: Reg)
         requires { self.old.pc ≤ LAST_WORD }
         ensures { effect (Instr.AddIndex x) self.old ≡ Changes self.new }
@@ -262,7 +262,7 @@ impl Processor {
         Ok(())
     }
 
-    /// `00CN`, `SCD n`: scrolls down by n rows, stored ones or those of the size.
+    /// `00CN`, `SCD n`: scrolls down by n rows, which are stored rows or rows of the size.
     pub(crate) fn row_scroll_down(&mut self, n: Nibble) -> Result<(), Stop>
         requires { self.old.pc ≤ LAST_WORD }
         ensures { Changing (effect (Instr.ScrollDown n) self.old) self.old self.new result }
@@ -283,7 +283,7 @@ impl Processor {
         self.advance();
     }
 
-    /// `00FB`, `SCR`: scrolls right by 4 columns, stored ones or those of the size.
+    /// `00FB`, `SCR`: scrolls right by 4 columns, which are stored columns or columns of the size.
     pub(crate) fn row_scroll_right(&mut self) -> Result<(), Stop>
         requires { self.old.pc ≤ LAST_WORD }
         ensures { Changing (effect Instr.ScrollRight self.old) self.old self.new result }
@@ -295,7 +295,7 @@ impl Processor {
         Ok(())
     }
 
-    /// `00FC`, `SCL`: scrolls left by 4 columns, stored ones or those of the size.
+    /// `00FC`, `SCL`: scrolls left by 4 columns, which are stored columns or columns of the size.
     pub(crate) fn row_scroll_left(&mut self) -> Result<(), Stop>
         requires { self.old.pc ≤ LAST_WORD }
         ensures { Changing (effect Instr.ScrollLeft self.old) self.old self.new result }
@@ -339,7 +339,7 @@ impl Processor {
         Ok(())
     }
 
-    /// `00EE`, `RET`: returns to the address of the newest frame, and removes that frame.
+    /// `00EE`, `RET`: returns to the newest return address, and removes it from the call stack.
     pub(crate) fn row_return(&mut self) -> Result<(), Stop>
         ensures { Changing (effect Instr.Return self.old) self.old self.new result }
     {
@@ -350,7 +350,7 @@ impl Processor {
         Ok(())
     }
 
-    /// `2NNN`, `CALL a`: adds a frame with the next address, and goes to a.
+    /// `2NNN`, `CALL a`: adds the next address to the call stack, and jumps to a.
     pub(crate) fn row_call(&mut self, address: Addr) -> Result<(), Stop>
         requires { self.old.pc ≤ LAST_WORD }
         ensures { Changing (effect (Instr.Call address) self.old) self.old self.new result }
@@ -376,7 +376,7 @@ impl Processor {
         Ok(())
     }
 
-    /// `FX85`, `LD Vx, R`: copies the flag registers into V0 to Vx.
+    /// `FX85`, `LD Vx, R`: copies the first flag registers into V0 to Vx.
     pub(crate) fn row_load_flags(&mut self, x: Reg) -> Result<(), Stop>
         requires { self.old.pc ≤ LAST_WORD }
         ensures { Changing (effect (Instr.LoadFlags x) self.old) self.old self.new result }
@@ -390,7 +390,7 @@ impl Processor {
         Ok(())
     }
 
-    /// `EX9E`, `SKP Vx`: skips if the key is down.
+    /// `EX9E`, `SKP Vx`: skips the next instruction if the key is down.
     pub(crate) fn row_skip_if_key(&mut self, x: Reg, keys: u16)
         requires { self.old.pc ≤ LAST_WORD }
         ensures { Asking (effect (Instr.SkipIfKey x) self.old) keys self.old self.new }
@@ -399,7 +399,7 @@ impl Processor {
         self.skip_if(down);
     }
 
-    /// `EXA1`, `SKNP Vx`: skips if the key is up.
+    /// `EXA1`, `SKNP Vx`: skips the next instruction if the key is up.
     pub(crate) fn row_skip_unless_key(&mut self, x: Reg, keys: u16)
         requires { self.old.pc ≤ LAST_WORD }
         ensures { Asking (effect (Instr.SkipUnlessKey x) self.old) keys self.old self.new }
@@ -408,7 +408,7 @@ impl Processor {
         self.skip_if(!down);
     }
 
-    /// `FX0A`, `LD Vx, K`: Vx becomes the lowest key that is down; the machine waits if none is.
+    /// `FX0A`, `LD Vx, K`: Vx becomes the lowest key that is down; the machine waits if no key is down.
     pub(crate) fn row_wait_key(&mut self, x: Reg, keys: u16)
         requires { self.old.pc ≤ LAST_WORD }
         ensures { Asking (effect (Instr.WaitKey x) self.old) keys self.old self.new }
@@ -419,8 +419,8 @@ impl Processor {
         }
     }
 
-    /// `DXYN`, `DRW Vx, Vy, n`: draws the sprite at I; VF says whether it met a lit pixel. With n =
-    /// 0 it may draw nothing.
+    /// `DXYN`, `DRW Vx, Vy, n`: draws the sprite at I; VF becomes 1 if it covers a lit pixel, otherwise 0.
+    /// If n is 0, it may draw nothing.
     #[inline(always)]
     pub(crate) fn row_draw(
         &mut self,
@@ -467,7 +467,7 @@ impl Processor {
         Ok(span)
     }
 
-    /// `FX55`, `LD [I], Vx`: stores V0 to Vx at I; I stays or moves on.
+    /// `FX55`, `LD [I], Vx`: stores V0 to Vx at I; I stays or advances.
     #[inline(always)]
     pub(crate) fn row_store_registers(&mut self, x: Reg, memory: &mut [u8]) -> Result<Span, Stop>
         requires size { length memory.old ≡ MEMORY_BYTES }
@@ -484,7 +484,7 @@ impl Processor {
         Ok(span)
     }
 
-    /// `FX65`, `LD Vx, [I]`: loads V0 to Vx from I; I stays or moves on.
+    /// `FX65`, `LD Vx, [I]`: loads V0 to Vx from I; I stays or advances.
     #[inline(always)]
     pub(crate) fn row_load_registers(&mut self, x: Reg, memory: &[u8]) -> Result<Span, Stop>
         requires size { length memory.now ≡ MEMORY_BYTES }

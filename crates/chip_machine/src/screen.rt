@@ -1,4 +1,4 @@
-//! The screen as 64 rows of 128 bits, in which the leftmost column is the highest bit.
+//! The screen as 64 rows of 128 bits. The leftmost column is the highest bit.
 
 ghost use Rattle.std.specs.Prelude.{◌≡◌, ℕ, ◌+◌, ◌-◌, ◌*◌, ◌/◌, ◌%◌, ◌<◌, ◌≤◌, false, not, ◌&&◌, ◌||◌, ◌==◌, length, slice_index, slice_index_or, IfOk, ◌^◌, IsTrue, ◌↔◌};
 ghost use Rattle.std.specs.FinSet as set;
@@ -15,7 +15,7 @@ use crate::sprite::{
 use std::alloc::{AllocError, Global};
 use std::marker::Model;
 
-/// The screen, which callers see as the set of its lit pixels.
+/// The screen. Contracts see it as the set of its lit pixels.
 #[derive(Drop)]
 pub(crate) struct Screen {
     rows: Vec<u128>,
@@ -52,7 +52,7 @@ impl Screen {
         }
     }
 
-    /// The pixels of a row; the leftmost is the highest bit. Past the last row, no pixel is lit.
+    /// The pixels of a row; the leftmost pixel is the highest bit. No pixel past the last row is lit.
     pub(crate) fn row(&self, row: usize) -> u128
         ensures points { (column : ℕ) → column < 128
             → lights result column ≡ is_lit self.now column row }
@@ -69,14 +69,14 @@ impl Screen {
         darken(&mut self.rows);
     }
 
-    /// Moves every pixel down by this many rows, and loses those that leave the screen.
+    /// Moves every pixel down by this many rows. Pixels that leave the screen are lost.
     pub(crate) fn scroll_down(&mut self, rows: usize)
         ensures { self.new ≡ scrolled_down rows self.old }
     {
         lower(&mut self.rows, rows);
     }
 
-    /// Moves every pixel right by this many columns, and loses those that leave the screen.
+    /// Moves every pixel right by this many columns. Pixels that leave the screen are lost.
     pub(crate) fn scroll_right(&mut self, columns: usize)
         requires { columns ≤ 8 }
         ensures { self.new ≡ scrolled_right columns self.old }
@@ -84,7 +84,7 @@ impl Screen {
         to_the_right(&mut self.rows, columns);
     }
 
-    /// Moves every pixel left by this many columns, and loses those that leave the screen.
+    /// Moves every pixel left by this many columns. Pixels that leave the screen are lost.
     pub(crate) fn scroll_left(&mut self, columns: usize)
         requires { columns ≤ 8 }
         ensures { self.new ≡ scrolled_left columns self.old }
@@ -100,14 +100,14 @@ impl Screen {
         Ok(Screen { rows })
     }
 
-    /// Takes the pixels of another screen.
+    /// Copies the pixels of another screen into this one.
     pub(crate) fn copy_from(&mut self, other: &Screen)
         ensures { self.new ≡ other.now }
     {
         self.rows.copy_from_slice(&other.rows);
     }
 
-    /// Replaces the pixels by these rows, in which the leftmost pixel is the highest bit.
+    /// Replaces the pixels with these rows. The leftmost pixel is the highest bit.
     pub(crate) fn set_rows(&mut self, rows: &[u128])
         requires { length rows.now ≡ 64 }
         ensures { self.new ≡ in_rows rows.now }
@@ -142,7 +142,7 @@ fn darken(rows: &mut [u128])
     }
 }
 
-/// Moves each item `by` places later, and drops those that leave the slice.
+/// Moves each item `by` places towards the end, and drops the items that leave the slice.
 fn move_later<T: Copy>(items: &mut [T], by: usize)
     requires { by ≤ length items.old }
     ensures { (k : ℕ) (d : T) → by ≤ k → k < length items.old
@@ -152,7 +152,7 @@ fn move_later<T: Copy>(items: &mut [T], by: usize)
     items.copy_within(..end, by);
 }
 
-/// Moves each row down by `n`.
+/// Moves each row down by `n` rows.
 fn lower(rows: &mut [u128], n: usize)
     requires { length rows.old ≡ 64 }
     ensures moved { (row : ℕ) → n ≤ row → row < 64
@@ -164,8 +164,8 @@ fn lower(rows: &mut [u128], n: usize)
     darken(&mut rows[..n]);
 }
 
-/// Moves the columns of each row right by `n`. The call is written twice, because a shift by a
-/// constant, such as the usual 4, is faster.
+/// Moves the columns of each row right by `n`. The call occurs twice, because a shift by a constant,
+/// such as the usual 4, is faster.
 fn to_the_right(rows: &mut [u128], n: usize)
     requires { n < 128 }
     ensures bits { (row : ℕ) → slice_index rows.old row < 2 ^ 128 }
@@ -217,8 +217,8 @@ fn shift_left(rows: &mut [u128], n: usize)
     }
 }
 
-/// Inverts the pixels of a stripe of columns in `count` rows, and returns the columns in which one
-/// of them was lit.
+/// Inverts the pixels of a stripe of columns in `count` rows. Returns the columns in which an inverted
+/// pixel was lit.
 fn turn(rows: &mut [u128], from: usize, count: usize, stripe: u128) -> u128
     requires { from + count ≤ length rows.old }
     ensures { AreTurned from (from + count) (λ column row. lights stripe column) rows.old rows.new
@@ -232,8 +232,8 @@ fn turn(rows: &mut [u128], from: usize, count: usize, stripe: u128) -> u128
     met
 }
 
-/// Inverts each pixel that a sprite covers, and returns whether one of them was lit. Sprites that
-/// wrap, or have wide rows in the low size, have their own loop, and a faster one draws all others.
+/// Inverts each pixel that a sprite covers, and returns whether one of them was lit. Sprites that wrap
+/// or have wide rows in the low size use a general loop; a faster loop draws all others.
 #[inline(always)]
 fn toggle(rows: &mut [u128], wraps: bool, high: bool, x: u8, y: u8, sprite: &[u8]) -> bool
     requires { length rows.old ≡ 64 }
@@ -254,8 +254,8 @@ fn is_clipped(wraps: bool, high: bool, sprite: &[u8]) -> bool
     !wraps && (sprite.len() != SPRITE_BYTES || high)
 }
 
-/// Inverts each pixel that a sprite covers, line by line over the whole screen, and returns whether
-/// one of them was lit.
+/// Inverts each pixel that a sprite covers, line by line over the whole screen. Returns whether one of
+/// these pixels was lit.
 #[inline(never)]
 fn toggle_all_lines(rows: &mut [u128], wraps: bool, high: bool, x: u8, y: u8, sprite: &[u8]) -> bool
     requires { length rows.old ≡ 64 }
@@ -270,8 +270,8 @@ fn toggle_all_lines(rows: &mut [u128], wraps: bool, high: bool, x: u8, y: u8, sp
     met != 0
 }
 
-/// Inverts each pixel that a clipped sprite covers, and returns whether one of them was lit. The
-/// call is written twice, because each copy is compiled for its own width.
+/// Inverts each pixel that a clipped sprite covers, and returns whether one of them was lit. The call
+/// occurs several times, because each copy is compiled for its own size and width.
 #[inline(never)]
 fn toggle_clipped(rows: &mut [u128], high: bool, x: u8, y: u8, sprite: &[u8]) -> bool
     requires { length rows.old ≡ 64 }
@@ -288,7 +288,7 @@ fn toggle_clipped(rows: &mut [u128], high: bool, x: u8, y: u8, sprite: &[u8]) ->
     }
 }
 
-/// Inverts the covered pixels with the loop for the half in which the sprite's columns lie.
+/// Inverts the covered pixels, with the loop for the half that the sprite's columns lie in.
 #[inline(always)]
 fn toggle_in(rows: &mut [u128], high: bool, x: u8, y: u8, sprite: &[u8]) -> bool
     requires { length rows.old ≡ 64 }
@@ -301,7 +301,7 @@ fn toggle_in(rows: &mut [u128], high: bool, x: u8, y: u8, sprite: &[u8]) -> bool
     }
 }
 
-/// Inverts the covered pixels line by line, for a sprite whose columns lie in this half.
+/// Inverts the covered pixels line by line. The sprite's columns lie in this half.
 #[inline(always)]
 fn toggle_lines(rows: &mut [u128], high: bool, half: Half, x: u8, y: u8, sprite: &[u8]) -> bool
     requires size { length rows.old ≡ 64 }

@@ -15,7 +15,7 @@ pub(crate) const WIDTH: usize = 128;
 /// The number of rows of the screen.
 pub(crate) const HEIGHT: usize = 64;
 
-/// The width and height of a pixel in stored pixels.
+/// The width and height of a pixel of the size, in stored pixels.
 pub(crate) fn scale_of(high: bool) -> usize
     ensures value { result ≡ scale high }
     ensures some { 1 ≤ result }
@@ -24,14 +24,14 @@ pub(crate) fn scale_of(high: bool) -> usize
     if high { 1 } else { 2 }
 }
 
-/// The byte of a sprite at a place, or 0 past its end.
+/// The byte of a sprite at an index, or 0 past its end.
 fn byte_at(sprite: &[u8], at: usize) -> u8
     ensures { result ≡ slice_index sprite.now at }
 {
     if at < sprite.len() { sprite[at] } else { 0 }
 }
 
-/// The number of rows of a sprite: in the high size, a sprite of `SPRITE_BYTES` bytes has two bytes
+/// The number of rows of a sprite. In the high size, a sprite of `SPRITE_BYTES` bytes has two bytes
 /// per row.
 #[tactic(auto, unfolding(crate::specs::inner::SpriteBytes::row_bytes_by_length))]
 fn rows_of(high: bool, sprite: &[u8]) -> usize
@@ -44,8 +44,8 @@ fn rows_of(high: bool, sprite: &[u8]) -> usize
     }
 }
 
-/// The first line that a sprite may cover, and the number of lines. A line is a row of pixels of
-/// the size.
+/// The first line that a sprite may cover, and the number of lines. A line is one row of pixels of the
+/// size.
 pub(crate) fn lines_under(high: bool, y: u8, sprite: &[u8]) -> (usize, usize)
     ensures first { result.0 ≡ y % (64 / scale high) }
     ensures on_screen { scale high * (result.0 + result.1) ≤ 64 }
@@ -59,19 +59,19 @@ pub(crate) fn lines_under(high: bool, y: u8, sprite: &[u8]) -> (usize, usize)
     (first, rows_of(high, sprite).min(height - first))
 }
 
-/// The part of the stored columns in which the at most sixteen columns of a sprite's row lie. Each
-/// part has its own loop, which reads and writes no more than it has to.
+/// The part of the screen that the up to sixteen columns of a sprite's row lie in. Each part has its
+/// own loop, which reads and writes no more than necessary.
 #[derive(Clone, Copy)]
 pub(crate) enum Half {
     /// All columns are in the left half.
     Left,
-    /// The columns begin in the left half, and may reach into the right one.
+    /// The columns start in the left half, and may reach into the right half.
     Middle,
-    /// The columns begin in the right half.
+    /// The columns start in the right half.
     Right,
 }
 
-/// The part of the screen in which the columns of a sprite lie.
+/// The part of the screen that the columns of a sprite lie in.
 pub(crate) fn half_of(high: bool, x: u8) -> Half
     ensures { LiesIn result (first_column high x) }
 {
@@ -86,8 +86,8 @@ pub(crate) fn half_of(high: bool, x: u8) -> Half
     }
 }
 
-/// The bits that a row of a sprite covers in each row of its line; the sprite's columns lie in this
-/// half.
+/// The bits that a row of a sprite covers in each stored row of its line. The sprite's columns lie in
+/// this half.
 pub(crate) fn covered_bits(high: bool, half: Half, x: u8, sprite: &[u8], row: usize) -> u128
     requires half { LiesIn half (first_column high x) }
     requires few { row < 64 }
@@ -101,8 +101,8 @@ pub(crate) fn covered_bits(high: bool, half: Half, x: u8, sprite: &[u8], row: us
     placed(pattern, half, scale * left)
 }
 
-/// Sixteen columns shifted so that the first is at `start`; those outside the screen are lost. Each
-/// shift is by less than 64 columns, which is faster than one by any number.
+/// Sixteen columns, shifted so that the first one is at `start`. Columns outside the screen are lost.
+/// Each shift is by fewer than 64 columns, which is faster than a shift by any number.
 fn placed(columns: u16, half: Half, start: usize) -> u128
     requires on_screen { start < 128 }
     requires half { LiesIn half start }
@@ -115,7 +115,7 @@ fn placed(columns: u16, half: Half, start: usize) -> u128
     }
 }
 
-/// The at most sixteen stored columns of a sprite's row; the leftmost is the highest bit.
+/// The up to sixteen stored columns of a sprite's row; the leftmost column is the highest bit.
 fn pattern_at(high: bool, sprite: &[u8], row: usize) -> u16
     requires { row < 64 }
     ensures { (i : ℕ) → i < 16
@@ -138,8 +138,8 @@ fn doubled(byte: u8) -> u16
     DOUBLED[byte as usize]
 }
 
-/// The bits that a sprite covers in each row of a line; the sprite may wrap or have wide rows in
-/// the low size.
+/// The bits that a sprite covers in each stored row of a line. The sprite may wrap or have wide rows
+/// in the low size.
 pub(crate) fn stripe_over(wraps: bool, high: bool, x: u8, y: u8, sprite: &[u8], line: usize) -> u128
     requires { line < 64 / scale high }
     ensures { (column at : ℕ) → column < 128 → scale high * line ≤ at
@@ -162,7 +162,7 @@ pub(crate) fn stripe_over(wraps: bool, high: bool, x: u8, y: u8, sprite: &[u8], 
     }
 }
 
-/// The columns rotated right by `start`: those that leave at the right come in at the left.
+/// The columns rotated right by `start`: columns that leave at the right re-enter at the left.
 fn around(columns: u128, start: usize) -> u128
     requires { start < 128 }
     ensures { (column : ℕ) → column < 128
@@ -171,7 +171,7 @@ fn around(columns: u128, start: usize) -> u128
     columns >> start | columns << ((128 - start) % 128)
 }
 
-/// The columns of a row of a sprite that begins at the left edge.
+/// The columns of one row of a sprite that starts at the left edge.
 fn row_bits(high: bool, sprite: &[u8], row: usize) -> u128
     requires { row < 64 }
     ensures { (column : ℕ) → column < 128 → lights result column
@@ -180,7 +180,7 @@ fn row_bits(high: bool, sprite: &[u8], row: usize) -> u128
     u128::from(wide_pattern_at(high, sprite, row)) << 96
 }
 
-/// The at most 32 stored columns of a sprite's row; the leftmost is the highest bit.
+/// The up to 32 stored columns of a sprite's row; the leftmost column is the highest bit.
 fn wide_pattern_at(high: bool, sprite: &[u8], row: usize) -> u32
     requires { row < 64 }
     ensures { (i : ℕ) → i < 32

@@ -3,18 +3,18 @@
 ghost use Rattle.std.specs.Prelude.{◌≡◌};
 ghost use Rattle.chip_machine.specs.Numbers.{stop_number};
 
-/// The reason why a machine stopped. A step that stops changes nothing else.
+/// The reason why a machine stopped. A step that stops the machine changes nothing else.
 #[derive(Clone, Copy, PartialEq, Eq)]
 pub enum Stop {
     /// S1: the program ended.
     Exit,
     /// S2: the word at pc is not an instruction.
     NoInstruction,
-    /// S3: there is no word at pc, which is above `LAST_WORD`.
+    /// S3: no word fits at pc, because pc is above `LAST_WORD`.
     PcOutOfRange,
-    /// S4: a call with `FRAMES` return addresses on the call stack.
+    /// S4: a call, while the call stack already contains `FRAMES` return addresses.
     FramesFull,
-    /// S5: a return with an empty call stack.
+    /// S5: a return, while the call stack is empty.
     NoFrame,
     /// S6: an instruction would access a byte past the end of the memory.
     AddressOutOfRange,

@@ -14,8 +14,8 @@ use std::marker::Model;
 pub struct Touch {
     addresses: [u16; TOUCHES],
     count: usize,
-    /// The first of the newest addresses. These are consecutive, and are written out only when
-    /// others follow.
+    /// The first of the newest addresses. They are consecutive, and are written out only when other
+    /// addresses follow.
     row_start: u16,
     row_len: usize,
 }
@@ -64,7 +64,7 @@ impl Span {
         Span { start: 0, len: 0 }
     }
 
-    /// Returns the addresses of `len` bytes from `start` on.
+    /// Returns the addresses of `len` bytes, starting at `start`.
     #[inline(always)]
     pub(crate) fn new(start: u16, len: usize) -> Self
         requires few { len ≤ SPRITE_BYTES }
@@ -74,7 +74,7 @@ impl Span {
         Span { start, len }
     }
 
-    /// Notes a step at the addresses, like `Touch::note`.
+    /// Records a step at the addresses, like `Touch::note`.
     #[inline(always)]
     pub(crate) fn note(&self, first_touch: &mut [u32], number: u32)
         requires { length first_touch.old ≡ MEMORY_BYTES }
@@ -85,7 +85,7 @@ impl Span {
 }
 
 impl Touch {
-    /// Returns a list without addresses.
+    /// Returns an empty list of addresses.
     pub fn new() -> Self
         ensures { result ≡ [] }
     {
@@ -105,7 +105,7 @@ impl Touch {
         self.row_len = 0;
     }
 
-    /// The number of addresses held, 0 to `TOUCHES`.
+    /// The number of addresses in the list, 0 to `TOUCHES`.
     pub fn len(&self) -> usize
         ensures value { result ≡ length self.now }
         ensures at_most { result ≤ TOUCHES }
@@ -113,15 +113,15 @@ impl Touch {
         self.count + self.row_len
     }
 
-    /// Whether no address is held.
+    /// Whether the list contains no address.
     pub fn is_empty(&self) -> bool
         ensures { IsTrue result ↔ (self.now ≡ []) }
     {
         self.len() == 0
     }
 
-    /// The address at a place, in the order in which the addresses were added, or `None` if `place`
-    /// is not below the length.
+    /// The address at an index, in the order in which the addresses were added, or `None` if `place` is
+    /// not below the length.
     pub fn get(&self, place: usize) -> Option<u16>
         ensures value { result ≡ slice_get self.now place }
         ensures in_memory { IfSome result (λ at. at < MEMORY_BYTES) }
@@ -135,8 +135,8 @@ impl Touch {
         }
     }
 
-    /// Adds an address, and returns whether it did. An address isn't added if `TOUCHES` are held
-    /// already, or if it lies past the end of the memory.
+    /// Adds an address, and returns whether it was added. An address isn't added if the list already
+    /// contains `TOUCHES` addresses, or if the address is past the end of the memory.
     pub fn add(&mut self, at: u16) -> bool
         ensures room { IsTrue result ↔ ((length self.old < TOUCHES) × (at < MEMORY_BYTES)) }
         ensures added { OnTrue result (self.new ≡ self.old ++ at ∷ []) }
@@ -149,8 +149,8 @@ impl Touch {
         true
     }
 
-    /// Notes a step at the addresses: each address keeps in the table the least number of a step
-    /// that was noted there.
+    /// Records a step at the addresses. For each address, the table keeps the lowest number of a step that
+    /// was recorded there.
     #[inline(always)]
     pub fn note(&self, first_touch: &mut [u32], number: u32)
         requires { length first_touch.old ≡ MEMORY_BYTES }
@@ -160,7 +160,7 @@ impl Touch {
         note_row(first_touch, self.row_start as usize, self.row_len, number);
     }
 
-    /// Adds the addresses that an instruction accesses to those of its word.
+    /// Adds the addresses that an instruction accesses, after those of its word.
     pub(crate) fn add_all(&mut self, span: Span)
         requires { length self.old ≤ 2 }
         ensures { self.new ≡ self.old ++ span }
@@ -168,7 +168,7 @@ impl Touch {
         self.add_span(span.start, span.len);
     }
 
-    /// Adds the addresses of `bytes` bytes from `at` on.
+    /// Adds the addresses of `bytes` bytes, starting at `at`.
     pub(crate) fn add_span(&mut self, at: u16, bytes: usize)
         requires in_memory { at + bytes ≤ MEMORY_BYTES }
         requires room { length self.old + bytes ≤ TOUCHES }
@@ -182,7 +182,7 @@ impl Touch {
     }
 }
 
-/// Fills a slice with the numbers from `start` on.
+/// Fills a slice with consecutive numbers, starting at `start`.
 fn count_up(numbers: &mut [u16], start: u16)
     requires { start + length numbers.old ≤ MEMORY_BYTES }
     ensures { numbers.new ≡ range_with_len start (length numbers.old) }
@@ -192,7 +192,7 @@ fn count_up(numbers: &mut [u16], start: u16)
     }
 }
 
-/// Notes a step at an address.
+/// Records a step at an address.
 #[inline(always)]
 pub(crate) fn note_at(first_touch: &mut [u32], at: usize, number: u32)
     requires { at < length first_touch.old }
@@ -204,7 +204,7 @@ pub(crate) fn note_at(first_touch: &mut [u32], at: usize, number: u32)
     }
 }
 
-/// Notes a step at the addresses of a list.
+/// Records a step at the addresses of a list.
 #[inline(always)]
 fn note_list(first_touch: &mut [u32], addresses: &[u16], number: u32)
     requires table { length first_touch.old ≡ MEMORY_BYTES }
@@ -216,7 +216,7 @@ fn note_list(first_touch: &mut [u32], addresses: &[u16], number: u32)
     }
 }
 
-/// Notes a step at `len` consecutive addresses.
+/// Records a step at `len` consecutive addresses.
 #[inline(always)]
 fn note_row(first_touch: &mut [u32], start: usize, len: usize, number: u32)
     requires table { length first_touch.old ≡ MEMORY_BYTES }
@@ -226,7 +226,7 @@ fn note_row(first_touch: &mut [u32], start: usize, len: usize, number: u32)
     note_all(&mut first_touch[start..start + len], number);
 }
 
-/// Notes a step at each address of a part of the table.
+/// Records a step at each address of a part of the table.
 #[inline(always)]
 fn note_all(part: &mut [u32], number: u32)
     ensures { (k : ℕ) → k < length part.old

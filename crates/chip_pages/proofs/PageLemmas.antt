@@ -1,4 +1,4 @@
--- Lemmas on the pages of four tables, one table after another.
+-- Lemmas about the pages of four tables in sequence.
 use Rattle.std.proofs.Common.{◌≡◌, List, ◌++◌, Option, Some, None, option_copied, refl}
 use Rattle.std.proofs.lemmas.List.{map-append}
 use Rattle.std.specs.Option.{option_or}

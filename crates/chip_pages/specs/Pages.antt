@@ -2,7 +2,7 @@
 --     page_of                    the page on a code or a word, in upper or lower case
 --     page_text, contents_text   a page as it is printed, and all codes and words with their titles
 --     AreAllPages                pages on all codes and words
---     IsExplained, IsContents    the texts that are printed for a code, and without one
+--     IsExplained, IsContents    the texts that are printed for a code, and if no code is given
 use Rattle.std.specs.Prelude.{◌≡◌, ℕ, List, [], ◌∷◌, ◌++◌, codes, flat_map, map, find, Bool, Option, option_map}
 use Rattle.std.specs.Str.{str_eq_ignore_ascii_case}
 use Rattle.std.specs.Str.Lines.{lines}
@@ -41,7 +41,7 @@ example_text (Answer source script answer) =
     ++ (codes "\nthe answer to this:\n\n"
     ++ (indented script.now ++ (codes "\nis this:\n\n" ++ indented answer.now))))
 
--- the label before the last sentence of a page with such an example
+-- the label before the last sentence of a page with an example of this kind
 abbrev pub last_label : Example → List ℕ
 last_label (Answer source script answer) = codes "\nSee also: "
 last_label _ = codes "\nThe fix: "
@@ -59,7 +59,7 @@ title_line page = page.code.now ++ (codes "  " ++ (page.title.now ++ codes "\n")
 unfoldable pub contents_text : List Page → List ℕ
 contents_text pages = flat_map title_line pages
 
--- the codes and words of some pages
+-- the codes and words of the given pages
 abbrev pub codes_of : List Page → List (List ℕ)
 codes_of pages = map (λ page. page.code.now) pages
 
@@ -71,8 +71,8 @@ line_codes = codes "F1" ∷ codes "F2" ∷ codes "F3" ∷ codes "F4" ∷ codes "
 abbrev pub command_codes : List (List ℕ)
 command_codes = codes "N1" ∷ codes "N2" ∷ codes "N3" ∷ codes "N4" ∷ codes "N5" ∷ codes "N6" ∷ codes "N7" ∷ codes "N8" ∷ codes "N9" ∷ codes "N10" ∷ codes "Q1" ∷ codes "Q2" ∷ codes "Q3" ∷ codes "Q4" ∷ codes "C1" ∷ codes "C2" ∷ []
 
--- the codes for the end of something: E1 to E4 for a session, O1 to O3 for a source that doesn't open,
--- S1 to S7 for a machine
+-- the codes for endings: E1 to E4 for a session that ends, O1 to O3 for a source that doesn't open,
+-- and S1 to S7 for a machine that stops
 abbrev pub end_codes : List (List ℕ)
 end_codes = codes "E1" ∷ codes "E2" ∷ codes "E3" ∷ codes "E4" ∷ codes "O1" ∷ codes "O2" ∷ codes "O3" ∷ codes "S1" ∷ codes "S2" ∷ codes "S3" ∷ codes "S4" ∷ codes "S5" ∷ codes "S6" ∷ codes "S7" ∷ []
 
@@ -80,8 +80,8 @@ end_codes = codes "E1" ∷ codes "E2" ∷ codes "E3" ∷ codes "E4" ∷ codes "O
 abbrev pub words : List (List ℕ)
 words = codes "ins" ∷ codes "rep" ∷ codes "del" ∷ codes "kins" ∷ codes "krep" ∷ codes "kdel" ∷ codes "image" ∷ codes "syms" ∷ codes "list" ∷ codes "faults" ∷ codes "regs" ∷ codes "mem" ∷ codes "screen" ∷ codes "dis" ∷ []
 
--- Some pages are on all codes and words, in the order of the documents. The pages of the program are
--- statics, which no clause can name.
+-- The pages cover all codes and words, in the order of the documents. Clauses can't name the
+-- program's own pages, because these are statics.
 abbrev pub AreAllPages : List Page → Type 0
 AreAllPages pages = codes_of pages ≡ line_codes ++ (command_codes ++ (end_codes ++ words))
 
@@ -97,7 +97,7 @@ pub record IsExplained (code : List ℕ) (text : Option (List ℕ)) : Type 0 whe
   pub on_code : IsPageOn code page
   pub text_is : text ≡ option_map page_text page
 
--- the text that is printed without a code: all codes and words with their titles
+-- the text that is printed if no code is given: all codes and words with their titles
 pub record IsContents (text : List ℕ) : Type 0 where
   pub pages : List Page
   pub all : AreAllPages pages

@@ -5,8 +5,8 @@ ghost use Rattle.chip_pages.specs.Pages.{IsExplained, IsContents, IsPageOn, cont
 use crate::pages::{Example, Page, command_pages, end_pages, line_pages, word_pages};
 use std::alloc::{AllocError, Global};
 
-/// Returns the page on a code or a word, in upper or lower case, as text, or `None` if there is no such
-/// page. Fails only if memory runs out.
+/// Returns the text of the page on a code or a word, or `None` if there is no such page. The case of
+/// letters doesn't matter. Fails only if memory runs out.
 pub fn page_text(alloc: Global, code: &str) -> Result<Option<Vec<u8>>, AllocError>
     ensures { IfOk result (λ text. IsExplained code.now (option_map (λ page. page.items) text)) }
 {
@@ -35,7 +35,7 @@ fn page_among<'a>(pages: &'a [Page], code: &str) -> Option<&'a Page>
         .find(|page| page.code.eq_ignore_ascii_case(code))
 }
 
-/// Returns all codes and words with their titles, one line each. Fails only if memory runs out.
+/// Returns all codes and words with their titles, one per line. Fails only if memory runs out.
 pub fn contents(alloc: Global) -> Result<Vec<u8>, AllocError>
     ensures { IfOk result (λ text. IsContents text.items) }
 {
@@ -70,7 +70,7 @@ fn text_of(alloc: Global, page: &Page) -> Result<Vec<u8>, AllocError>
     Ok(text)
 }
 
-// Returns the label before the last sentence of a page with such an example.
+// Returns the label before the last sentence of a page with an example of this kind.
 fn last_label(example: &Example) -> &'static str
     ensures { result.now ≡ last_label example.now }
 {
@@ -117,7 +117,7 @@ fn push_example(text: &mut Vec<u8>, example: &Example) -> Result<(), AllocError>
     }
 }
 
-// Adds the introduction to some lines, and these lines with four spaces before each.
+// Appends the introduction, and then each of the lines with four spaces before it.
 fn push_indented(text: &mut Vec<u8>, introduction: &str, lines: &str) -> Result<(), AllocError>
     ensures { OnOk result (text.new.items
         ≡ text.old.items ++ (introduction.now ++ indented lines.now)) }

@@ -1,5 +1,5 @@
-//! A page on each code that the workbench prints and on each word of a script, as `explain` prints it;
-//! and the text of the licences.
+//! The pages that `explain` prints, one for each code that the workbench prints and for each word of a
+//! script; and the text of the licences.
 #![tactic(auto)]
 
 mod explain;

@@ -2,7 +2,7 @@
 ghost use Rattle.std.specs.Prelude.{◌≡◌};
 ghost use Rattle.chip_pages.specs.Licences.{licences_text};
 
-// The text of the file THIRD-PARTY. `tools/licences --write` copies the file to this place.
+// The text of the file THIRD-PARTY. `tools/licences --write` copies the file here.
 pub const LICENCES: &str = "\
 The licences of chipbench
 
@@ -135,8 +135,8 @@ dealings in these Data Files or Software without prior written
 authorization of the copyright holder.
 ";
 
-/// Returns the copyright notices of the program and of everything that is linked into it, and their
-/// licences.
+/// Returns the copyright notices and the licences of the program and of everything that is linked
+/// into it.
 pub fn licence_text() -> &'static str
     ensures { result.now ≡ licences_text }
 {

@@ -1,4 +1,4 @@
-//! A page on each code that the workbench prints, and on each word of a script.
+//! One page for each code that the workbench prints, and for each word of a script.
 ghost use Rattle.std.specs.Prelude.{◌≡◌};
 ghost use Rattle.chip_pages.specs.Pages.{codes_of, command_codes, end_codes, line_codes, words};
 
@@ -7,16 +7,16 @@ ghost use Rattle.chip_pages.specs.Pages.{codes_of, command_codes, end_codes, lin
 pub enum Example {
     /// A source whose last line has the fault or the warning.
     Source(&'static str),
-    /// A source, and a script on it whose last line is refused.
+    /// A source and a script. The last line of the script is refused.
     Script {
         source: &'static str,
         script: &'static str,
     },
     /// A source whose program stops within 100 steps.
     Stop(&'static str),
-    /// A description of an example that is too large to write out, or depends on the system.
+    /// A description of an example that is too large to write out, or that depends on the system.
     Told(&'static str),
-    /// A source, a script on it, and the answers to the script.
+    /// A source, a script for the source, and the answers to the script.
     Answer {
         source: &'static str,
         script: &'static str,
@@ -34,7 +34,7 @@ pub struct Page {
     pub fix: &'static str,
 }
 
-// Only one function reads each table, because the proof of a function reads the whole of each static
+// Only one function names each table, because the proof of a function reads the whole of each static
 // that the function names.
 
 /// The pages on the faults and the warnings of a source's lines, and on the faults of its properties.
@@ -51,15 +51,15 @@ pub(crate) fn command_pages() -> &'static [Page]
     &COMMAND_PAGES
 }
 
-/// The pages on why a session ends or doesn't open, and why a program stops.
+/// The pages on the reasons why a session ends or doesn't open, and why a program stops.
 pub(crate) fn end_pages() -> &'static [Page]
     ensures { codes_of result.now ≡ end_codes }
 {
     &END_PAGES
 }
 
-/// The pages on the words that begin the commands of a script. The title of a page has the form of the
-/// command.
+/// The pages on the words that begin the commands of a script. The title of each page shows the form
+/// of the command.
 pub fn word_pages() -> &'static [Page]
     ensures { codes_of result.now ≡ words }
 {
@@ -439,7 +439,7 @@ static COMMAND_PAGES: [Page; 16] = [
     },
 ];
 
-// Why a session ends or doesn't open, and why a program stops.
+// The reasons why a session ends or doesn't open, and why a program stops.
 static END_PAGES: [Page; 14] = [
     Page {
         code: "E1",

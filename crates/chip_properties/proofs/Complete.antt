@@ -1,4 +1,4 @@
--- Everything that tokens are by the grammar is found: values, items and addends.
+-- Every value, item and addend that the grammar allows for tokens is found.
 use Rattle.std.proofs.Common.{◌≡◌, ◌⊎◌, inl, inr, ℕ, ◌+◌, ◌<◌, ◌==◌, Bool, true, false, not, if◌then◌else◌, List, [], ◌∷◌, ◌++◌, length, take, drop, Option, Some, None, refl, sym, subst, ◌∙◌, ap, append_assoc, append-nil, length-append, arith}
 use Rattle.std.specs.Prelude.{◌&&◌, ◌||◌, codes, is_some, option_and_then}
 use Rattle.std.specs.Str.{bytes_eq}
@@ -30,9 +30,9 @@ use Rattle.chip_properties.specs.computed.Reading.{number_in, if_below, number_b
 use Rattle.chip_properties.specs.Language.{IsNumber, IsValue, one_token, in_parentheses as a_value_in_parentheses, IsItem, named, a_byte, a_pixel, Addend, IsAddend, a_value, an_item, a_product}
 use Rattle.chip_properties.proofs.Ends.{ended_by}
 
--- ---- tokens that a separator is looked for after
+-- ---- tokens that the search for a separator passes
 
--- no separator is among tokens that begin with this many open parentheses, and as many are open after them
+-- the tokens contain no separator if they begin with this many open parentheses, and as many are open after them
 abbrev pub Over : Separator → ℕ → List Lexeme → Type 0
 Over s depth ts = (rest : List Lexeme) → count_before s depth (ts ++ rest) ≡ count_before s depth rest + length ts
 
@@ -54,7 +54,7 @@ over_around s depth begin end inside e l f m h rest =
 
 -- ---- expressions
 
--- only a comma may be a separator there
+-- only a comma can be a separator at this depth
 abbrev pub Blind : Separator → ℕ → Type 0
 Blind s depth = (t : Lexeme) → is_sign_of 44 t ≡ false → (depth == 0 && separates s t) ≡ false
 
@@ -145,7 +145,7 @@ one_alone {t = t} h = alone h.expression t refl
 unlike : (test : List ℕ → Bool) (v w : List ℕ) → test v ≡ true → test w ≡ false → bytes_eq v w ≡ false
 unlike test v w pass fail = false_from_ne_true (bytes_eq v w) (λ e. let same = (bytes_eq-Decides v w).0 e in cc)
 
--- the result of a table for a word, which the words of the table pass
+-- the result of a table for a word, if the other words of the table pass the test
 listed : {A : Type 0} (test : List ℕ → Bool) (w v : List ℕ) (a x : A) (others : Option A) → test v ≡ true → (others ≡ Some x → test w ≡ true)
     → (if bytes_eq w v then Some a else others) ≡ Some x → test w ≡ true
 listed test w v a x others pass on h = by_test (bytes_eq w v) refl h
@@ -163,7 +163,7 @@ kind_listed test w kind a n e c h =
     listed test w (codes "ALWAYS") Always kind _ a (listed test w (codes "NEVER") Never kind _ n
     (listed test w (codes "EVER") Ever kind _ e (listed test w (codes "CAN") Can kind None c (none_there kind)))) h
 
--- a word that an item is begins no kind, and is none of the words between parts
+-- a word that names an item begins no kind, and isn't one of the words between parts
 abbrev pub is_no_item : List ℕ → Bool
 is_no_item w = not (is_some (item_of_word w))
 
@@ -227,7 +227,7 @@ sign_between Or c h = refl
 sign_between s c (inl e) = rw e refl
 sign_between s c (inr e) = rw e refl
 
--- ---- what no separator is in
+-- ---- tokens without a separator
 
 pub over_value : {symbols : Symbols} {ts : List Lexeme} {n : ℕ} → IsValue symbols ts n → (s : Separator) → Over s 0 ts
 over_value (one_token {t = Word w} free h) s = over_token s 0 (Word w) (free_between w free (one_alone h) s) refl

@@ -1,4 +1,4 @@
--- Everything that tokens state by the grammar is found.
+-- Every property that the grammar allows for tokens is found.
 use Rattle.std.proofs.Common.{◌≡◌, ℕ, ◌<◌, false, List, [], ◌∷◌, ◌++◌, Option, Some, None, Ok, Err, IfOk, IfErr, refl, sym, ◌∙◌, ap, append_assoc, arith}
 use Rattle.std.proofs.lemmas.Option.{none-some}
 use Rattle.std.specs.Prelude.{codes}
@@ -80,7 +80,7 @@ property_found {kind = kind} {p = p} h =
 
 -- ---- kinds
 
--- no word for a kind comes first, whatever follows
+-- the tokens don't begin with a word for a kind, whatever follows
 abbrev pub Begins : List Lexeme → Type 0
 Begins ts = (rest : List Lexeme) → kind_in_front (ts ++ rest) ≡ None
 
@@ -139,7 +139,7 @@ no_property_stated symbols here kind ts none p h =
     let is : of_kind symbols here kind ts ≡ Some (found kind p) = rw (property_found h) refl in
     none-some (found kind p) (sym none ∙ is)
 
--- ---- a text of its own
+-- ---- a text outside a source
 
 pub text_refused : (symbols : Symbols) (kind : Kind) (ts : List Lexeme) (r : Answer)
     → IfOk r (λ read. IfErr read (λ fault. stated_in symbols None (Some kind) ts ≡ None))

@@ -1,4 +1,4 @@
--- Everything that tokens are by the grammar is found: sums, comparisons and conditions.
+-- Every sum, comparison and condition that the grammar allows for tokens is found.
 use Rattle.std.proofs.Common.{◌≡◌, ◌⊎◌, inl, inr, ℕ, suc, ◌+◌, ◌^◌, ◌<◌, ◌≤◌, ◌==◌, Bool, true, false, List, [], ◌∷◌, ◌++◌, length, Option, Some, refl, sym, subst, ◌∙◌, ap, append_assoc, append-nil, length-append, arith}
 use Rattle.std.specs.Prelude.{◌||◌, codes, fold}
 use Rattle.std.proofs.lemmas.Bool.{eq-eqb, false_from_ne_true, lt-ltb, ne_eqb, or_right}
@@ -86,7 +86,7 @@ over_sum {symbols = symbols} h s star plus =
 abbrev pub front_of : Relation → List Lexeme → Option (Relation × List Lexeme)
 front_of r back = Some (r, back)
 
--- tokens that contain no relation begin with no sign of one
+-- tokens that contain no relation don't begin with a sign of one
 unsigned : (c : ℕ) (t : Lexeme) (ts : List Lexeme) → ((u : Lexeme) → is_sign_of c u ≡ true → separates relation u ≡ true) → Over relation 0 (t ∷ ts)
     → is_sign_of c t ≡ false
 unsigned c t ts sign over =
@@ -130,7 +130,7 @@ comparison_found {c = c} h =
       sum_found h.right,
     ) refl
 
--- `and`, `or` and a place are in no comparison
+-- a comparison contains no `and`, no `or` and no place
 abbrev pub IsWide : Separator → Type 0
 IsWide s = (c : ℕ) → separates s (Sign c) ≡ false
 
@@ -169,7 +169,7 @@ joint_between false = refl
 wide_or : IsWide Or
 wide_or c = refl
 
--- `or` is among the tokens if not all comparisons have to hold
+-- the tokens contain `or` if not all comparisons have to hold
 or_found : {symbols : Symbols} (ts : List Lexeme) (is_all : Bool) (cs : List SeenComparison) → IsCondition symbols ts (record { is_all = is_all; comparisons = cs })
     → has_no_or ts ≡ is_all
 or_found {symbols = symbols} ts true cs h =

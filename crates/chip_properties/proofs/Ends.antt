@@ -26,7 +26,7 @@ pub ended_by : (end : ℕ) (front : List Lexeme) (last : Lexeme)
 ended_by end [] last = refl
 ended_by end (t ∷ front) last = ended_put end t front last (ended_by end front last)
 
--- between the first token and the last
+-- the tokens between the first token and the last
 pub enclosed_by : (begin end : ℕ) (first : Lexeme) (inside : List Lexeme) (last : Lexeme) (ts rest : List Lexeme) (a b : Bool)
     → ts ≡ first ∷ rest → rest ≡ inside ++ last ∷ [] → is_sign_of begin first ≡ a → is_sign_of end last ≡ b
     → enclosed begin end ts ≡ (if a then (if b then Some inside else None) else None)

@@ -2,8 +2,8 @@
 --     Ends      tokens that end with a sign; bytes without the blanks at the end
 --     Pieces    tokens between separators
 --     Loops     a sum and a condition, piece by piece
---     Sound, SoundSums, SoundProperties     everything that is found is in the grammar
---     Complete, CompleteSums, CompleteProperties     everything in the grammar is found
+--     Sound, SoundSums, SoundProperties     everything found is allowed by the grammar
+--     Complete, CompleteSums, CompleteProperties     everything allowed by the grammar is found
 --     Told      the properties and faults after reading line by line
 mod Complete
 mod CompleteProperties

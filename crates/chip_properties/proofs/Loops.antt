@@ -14,7 +14,7 @@ use Rattle.chip_properties.specs.computed.Separated.{before_first, after_first, 
 use Rattle.chip_properties.specs.computed.Reading.{added_in, comparison_in, found_with, summed}
 use Rattle.chip_properties.proofs.Pieces.{pieces_split}
 
--- no more addends than the limit
+-- there are no more addends than the limit
 pub sum_full : (symbols : Symbols) (s : Separator) (n : ℕ) (x : SeenSum) (ts : List Lexeme) → n ≡ MOST_TERMS
     → summed symbols n x (pieces s 0 ts) ≡ None
 sum_full symbols s n x ts h = rw (pieces_split s ts, h) refl
@@ -28,7 +28,7 @@ pub sum_goes_on : (symbols : Symbols) (s : Separator) (n : ℕ) (x y : SeenSum) 
     → summed symbols n x (pieces s 0 ts) ≡ summed symbols (n + 1) y (pieces_in s back)
 sum_goes_on symbols s n x y ts front back h e b a = rw (pieces_split s ts, ne_eqb n MOST_TERMS h, ← e, a, b) refl
 
--- no more comparisons than the limit
+-- there are no more comparisons than the limit
 pub condition_full : (symbols : Symbols) (s : Separator) (x : List SeenComparison) (ts : List Lexeme) → length x ≡ MOST_COMPARISONS
     → found_with symbols x (pieces s 0 ts) ≡ None
 condition_full symbols s x ts h = rw (pieces_split s ts, h) refl

@@ -15,7 +15,7 @@ tail_suc (t ∷ ts) (suc n) h = tail_suc ts n (omega arith)
 pub tail_after : (ts : List Lexeme) (n : ℕ) → n < length ts → Some (drop (n + 1) ts) ≡ tail_of (drop n ts)
 tail_after ts n h = rw add-one (sym (tail_suc ts n h))
 
--- the pieces are the tokens before the first separator, and the pieces of those after it
+-- the pieces are the tokens before the first separator, followed by the pieces of the tokens after it
 abbrev Split : Separator → ℕ → List Lexeme → Type 0
 Split s depth ts =
     pieces s depth ts ≡ take (count_before s depth ts) ts ∷ pieces_in s (tail_of (drop (count_before s depth ts) ts))

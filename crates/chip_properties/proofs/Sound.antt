@@ -1,4 +1,4 @@
--- Properties that tokens are found to state are the ones that they state by the grammar.
+-- The properties that are found for tokens are the ones that they state by the grammar.
 use Rattle.std.proofs.Common.{◌≡◌, ℕ, zero, suc, ◌<◌, ◌==◌, Bool, true, false, if◌then◌else◌, List, [], ◌∷◌, ◌++◌, take, drop, Option, Some, None, Result, Ok, Err, refl, sym, subst, ◌∙◌, ap, add-one, arith}
 use Rattle.std.proofs.lemmas.Option.{none-some, same_Some}
 use Rattle.std.specs.Prelude.{◌&&◌, ℤ, pos, negsuc, nat_lt, codes, option_map, option_and_then}

@@ -118,7 +118,7 @@ pub given_kind_sound : (symbols : Symbols) (here : Option ℕ) (given : Kind) (t
     → stated_in symbols here (Some given) ts ≡ Some (found kind p) → (kind ≡ given) × IsProperty symbols here given ts p
 given_kind_sound symbols here given ts kind p h = kind_sound symbols here given ts (found kind p) h
 
--- ---- a text of its own
+-- ---- a text outside a source
 
 abbrev pub Answer : Type 0
 Answer = Result (Result Stated PropertyFault) AllocError

@@ -106,7 +106,7 @@ with_fits s t (times n i) h f =
     let is = ap (λ (x : SeenSum). x.constant) (with_is s t (times n i) h) in
     omega arith
 
--- one more, within the limit
+-- one more item, within the limit
 few_more : (count long most : ℕ) → (count == most) ≡ false → count ≤ most → (count + 1 ≤ most → count + 1 + long ≤ most) → count + suc long ≤ most
 few_more count long most e low on =
     let apart = eqb-false count most e in
@@ -138,7 +138,7 @@ sum_sound symbols ts s h =
 
 -- ---- comparisons
 
--- a relation in front, and what follows
+-- a relation at the front, and the tokens after it
 abbrev pub Front : Type 0
 Front = Relation × List Lexeme
 
@@ -219,7 +219,7 @@ between_is : (is_all : Bool) (t : Lexeme) → separates (joint is_all) t ≡ tru
 between_is true t h = word_is (codes "AND") t h
 between_is false t h = word_is (codes "OR") t h
 
--- a single comparison, which counts as one of which all must hold
+-- a single comparison, which counts as one where all must hold
 counted_all : (s : Separator) (depth : ℕ) (ts : List Lexeme) → tail_of (drop (count_before s depth ts) ts) ≡ None → count_before s depth ts ≡ length ts
 counted_all s depth [] h = refl
 counted_all s depth (t ∷ ts) h = by_test (depth == 0 && separates s t) refl (counted_all s (level_after depth t) ts)

@@ -37,7 +37,7 @@ IsStatedBy lines number start address text s =
     (s.line ≡ number)
     × (stated_in (values_of (symbols_of lines)) (Some address) None (property_tokens (drop start text)) ≡ Some (found s.kind (seen_property s.property)))
 
--- the tokens state nothing, or the lines before them already state as many properties as may be read
+-- the tokens state nothing, or the lines before them already state as many properties as are allowed
 abbrev pub IsUnread : List (List ℕ) → (number start address : ℕ) → List ℕ → Type 0
 IsUnread lines number start address text =
     StateNothing (values_of (symbols_of lines)) (Some address) (property_tokens (drop start text)) ⊎ (MOST_PROPERTIES ≤ count_in lines (number - 1))
@@ -127,7 +127,7 @@ pub record UpTo (lines : List (List ℕ)) (count : ℕ) (found : Properties) : T
   pub told : (n start : ℕ) (f : LineFacts) → n ≤ count → States lines n start f → Numbered found.stated.items found.faults.items n
   pub counted : length found.stated.items + length found.faults.items ≡ count_in lines count
 
--- ---- how many are told
+-- ---- the number of properties and faults
 
 abbrev pub one_if : Option ℕ → ℕ
 one_if None = 0
@@ -226,7 +226,7 @@ none_yet lines new s f = record {
     no_line_0 lines zero start f low on = none-some f on.there
     no_line_0 lines (suc n) start f low on = omega arith
 
--- an existing line is one of them
+-- the number of an existing line is at most the number of lines
 line_low : (lines : List (List ℕ)) (n : ℕ) (f : LineFacts) → line_at lines n ≡ Some f → n ≤ length (line_facts lines)
 line_low lines n f h = by_test (nat_eq n 0) h
   where

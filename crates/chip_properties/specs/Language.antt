@@ -2,7 +2,7 @@
 -- project).
 --
 --     property   = [always | never | ever | can] [condition] [here | at value]; at least one of the last two
---                  parts must be there, and in an `always` property the condition must
+--                  parts is required, and an `always` property requires the condition
 --     condition  = comparison {and comparison} | comparison {or comparison}
 --     comparison = sum relation sum
 --     relation   = "=" | "<" ">" | "<" | "<" "=" | ">" | ">" "="
@@ -13,8 +13,8 @@
 --     value      = number | name | "(" expression ")"
 --
 -- The tokens are those of Tokens, which reads `!=` as `<>`.
--- A word of the language always means itself, so a name that is spelled like one must be put in
--- parentheses.
+-- A word of the language always has its own meaning, so a name with the spelling of such a word must be
+-- put in parentheses.
 use Rattle.std.specs.Prelude.{◌≡◌, ◌≤◌, ◌<◌, ℕ, ◌+◌, ◌^◌, Bool, true, false, if◌then◌else◌, pos, List, [], ◌∷◌, ◌++◌, length, Option, Some, None, Ok, codes, fold}
 use Rattle.chip_lang.specs.declared.limits.TheConstants.{MEMORY_BYTES}
 use Rattle.chip_lang.specs.declared.lexeme.Lexeme.{Lexeme}
@@ -51,7 +51,7 @@ pub data IsValue : Symbols → List Lexeme → ℕ → Type 0 where
   in_parentheses : {symbols : Symbols} {inside ts : List Lexeme} {n : ℕ}
       → ts ≡ Sign 40 ∷ (inside ++ Sign 41 ∷ []) → IsNumber symbols inside n → IsValue symbols ts n
 
--- an item that a property may ask for
+-- an item that a property can use
 pub data IsItem : Symbols → List Lexeme → Item → Type 0 where
   named : {symbols : Symbols} {w : List ℕ} {i : Item} → item_of_word w ≡ Some i
       → IsItem symbols (Word w ∷ []) i
@@ -77,12 +77,12 @@ pub data IsAddend : Symbols → List Lexeme → Addend → Type 0 where
       → ts ≡ front ++ Sign 42 ∷ back → IsValue symbols front n → IsItem symbols back i
       → IsAddend symbols ts (times n i)
 
--- tokens that consist of at least one part, with a separator between each two parts
+-- tokens that consist of at least one part, with a separator between neighboring parts
 abbrev pub joined : Lexeme → List Lexeme → List (List Lexeme) → List Lexeme
 joined separator first [] = first
 joined separator first (next ∷ more) = first ++ separator ∷ joined separator next more
 
--- a relation holds between each part and the element at its place
+-- a relation holds between each part and the element at the same place
 abbrev pub AreEach : {A : Type 0} → (List Lexeme → A → Type 0) → List (List Lexeme) → List A → Type 0
 AreEach Is [] [] = Unit
 AreEach Is [] (x ∷ xs) = ⊥
@@ -126,11 +126,11 @@ pub record IsComparison (symbols : Symbols) (ts : List Lexeme) (c : SeenComparis
   pub left : IsSum symbols front c.left
   pub right : IsSum symbols back c.right
 
--- the word between comparisons: `and` if all must hold, `or` if one must
+-- the word between comparisons: `and` if all must hold, `or` if at least one must hold
 abbrev pub word_between : Bool → Lexeme
 word_between is_all = Word (if is_all then codes "AND" else codes "OR")
 
--- comparisons with one word between them, at most MOST_COMPARISONS; a single comparison counts as one of which all must hold
+-- at most MOST_COMPARISONS comparisons with one word between them; `is_all` is true for a single one
 pub record IsCondition (symbols : Symbols) (ts : List Lexeme) (c : SeenCondition) : Type 0 where
   pub first : List Lexeme
   pub more : List (List Lexeme)
@@ -148,8 +148,8 @@ pub data IsPlace : Symbols → (here : Option ℕ) → List Lexeme → Option �
       → IsValue symbols ts a → a < MEMORY_BYTES
       → IsPlace symbols here (Word (codes "AT") ∷ ts) (Some a)
 
--- the condition before a place. It may be left out if there is a place and the kind is not `always`; it
--- then always holds.
+-- the condition before a place. The condition may be omitted if there is a place and the kind is
+-- not `always`; it then always holds.
 pub data IsGiven : Symbols → Kind → (front back : List Lexeme) → SeenCondition → Type 0 where
   a_condition : {symbols : Symbols} {kind : Kind} {front back : List Lexeme} {c : SeenCondition}
       → IsCondition symbols front c → IsGiven symbols kind front back c
@@ -162,8 +162,8 @@ abbrev pub is_wanted : Kind → Bool
 is_wanted Always = false
 is_wanted kind = true
 
--- the property that tokens state for a kind, without the word for the kind; at most OPEN_PARENTHESES
--- parentheses and brackets are open at once
+-- the property that tokens state for a kind, without the word for the kind; at most
+-- OPEN_PARENTHESES parentheses and brackets are open at once
 pub record IsProperty (symbols : Symbols) (here : Option ℕ) (kind : Kind) (ts : List Lexeme)
     (p : SeenProperty) : Type 0 where
   pub front : List Lexeme
@@ -174,7 +174,7 @@ pub record IsProperty (symbols : Symbols) (here : Option ℕ) (kind : Kind) (ts 
   pub wanted : p.wanted ≡ is_wanted kind
   pub shallow : is_deep 0 ts ≡ false
 
--- the kind and the property that tokens state; the kind is the one with which they begin, or else `always`
+-- the kind and the property that tokens state; the kind is the one whose word they begin with, or else `always`
 pub data IsStated : Symbols → (here : Option ℕ) → List Lexeme → Kind → SeenProperty → Type 0 where
   with_kind : {symbols : Symbols} {here : Option ℕ} {w : List ℕ} {ts : List Lexeme} {kind : Kind}
       {p : SeenProperty} → kind_of_word w ≡ Some kind → IsProperty symbols here kind ts p

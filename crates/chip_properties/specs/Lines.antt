@@ -15,7 +15,7 @@ use Rattle.chip_properties.specs.Tokens.{property_tokens}
 use Rattle.chip_lang.specs.declared.lexeme.Lexeme.{Lexeme}
 use Rattle.chip_lang.specs.declared.lexeme.Lexeme.TheVariants.{Word}
 
--- bytes without the blanks in front
+-- bytes without the blanks at the front
 abbrev pub without_blanks : List ℕ → List ℕ
 without_blanks bytes = drop (prefix_len is_blank bytes) bytes
 
@@ -23,7 +23,7 @@ without_blanks bytes = drop (prefix_len is_blank bytes) bytes
 abbrev pub trimmed : List ℕ → List ℕ
 trimmed bytes = reverse (without_blanks (reverse (without_blanks bytes)))
 
--- the place after `;!`, if `;!` comes after this many blanks
+-- the index after `;!`, if `;!` follows this many blanks
 abbrev pub after_mark : ℕ → List ℕ → Option ℕ
 after_mark blanks [] = None
 after_mark blanks (a ∷ []) = None
@@ -54,12 +54,12 @@ words_in line = words_after line (mark_end line)
 abbrev pub property_start : LineFacts → Option ℕ
 property_start f = if f.active then mark_end f.text else None
 
--- a line of a source states a property, which begins at a place in its text
+-- a line of a source states a property, whose text begins at a place in the line
 pub record States (lines : List (List ℕ)) (number start : ℕ) (f : LineFacts) : Type 0 where
   pub there : line_at lines number ≡ Some f
   pub begins : property_start f ≡ Some start
 
--- the statement of a line of a source, given the names that have values there
+-- the statement of a line of a source, given the names that have values at that line
 pub record IsStatedOn (lines : List (List ℕ)) (s : Stated) : Type 0 where
   pub start : ℕ
   pub facts : LineFacts
@@ -67,7 +67,7 @@ pub record IsStatedOn (lines : List (List ℕ)) (s : Stated) : Type 0 where
   pub states : IsStated (values_of (symbols_of lines)) (Some facts.address)
       (property_tokens (drop start facts.text)) s.kind (seen_property s.property)
 
--- a fault is at bytes of the line with a number
+-- a fault lies at bytes of the line with a number
 pub record StandsAt (number : ℕ) (line : List ℕ) (fault : PropertyFault) : Type 0 where
   pub there : fault.line ≡ number
   pub rises : fault.span.start ≤ fault.span.end
@@ -77,8 +77,8 @@ pub record StandsAt (number : ℕ) (line : List ℕ) (fault : PropertyFault) : T
 abbrev pub count_in : List (List ℕ) → ℕ → ℕ
 count_in lines count = length (filter_map property_start (take count (line_facts lines)))
 
--- a fault is on a line of a source whose tokens state nothing, given the names that have values there.
--- After MOST_PROPERTIES properties, a line that states something has a fault too.
+-- a fault is on a line of a source whose tokens state nothing, given the names that have values at
+-- that line. After MOST_PROPERTIES properties, each further line with a property also has a fault.
 pub record StandsOn (lines : List (List ℕ)) (fault : PropertyFault) : Type 0 where
   pub start : ℕ
   pub facts : LineFacts

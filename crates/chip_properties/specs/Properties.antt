@@ -12,7 +12,7 @@ abbrev pub is_told : List Stated → List PropertyFault → ℕ → Bool
 is_told stated faults number =
     list_any (λ s. s.line == number) stated || list_any (λ fault. fault.line == number) faults
 
--- the properties and the faults that are reported for lines of a source; each line that states a property has one or the other
+-- the properties and faults reported for lines of a source: one or the other for each line with a property
 pub record AreProperties (lines : List (List ℕ)) (found : Properties) : Type 0 where
   pub stated : All (IsStatedOn lines) found.stated.items
   pub faults : All (StandsOn lines) found.faults.items

@@ -1,4 +1,4 @@
--- Properties, apart from where their parts lie in memory (chosen by this project).
+-- Properties, apart from the places of their parts in memory (chosen by this project).
 use Rattle.std.specs.Prelude.{ℕ, Bool, List, Option, map}
 use Rattle.chip_explore.specs.declared.property.Term.{Term}
 use Rattle.chip_explore.specs.declared.property.Sum.{Sum}

@@ -7,7 +7,7 @@ use Rattle.chip_explore.specs.declared.property.Item.TheVariants.{Register, Inde
 use Rattle.chip_properties.specs.declared.stated.Kind.{Kind}
 use Rattle.chip_properties.specs.declared.stated.Kind.TheVariants.{Always, Never, Ever, Can}
 
--- the kind of property that a word begins
+-- the kind of property that begins with a word
 abbrev pub kind_of_word : List ℕ → Option Kind
 kind_of_word w =
     if bytes_eq w (codes "ALWAYS") then Some Always
@@ -22,7 +22,7 @@ is_property_word w =
     || bytes_eq w (codes "PC") || bytes_eq w (codes "DEPTH") || bytes_eq w (codes "KEYS")
     || bytes_eq w (codes "PIXEL")
 
--- the item that a word means, if it isn't a register
+-- the item that a word names, if the word isn't a register
 abbrev pub other_item : List ℕ → Option Item
 other_item w =
     if bytes_eq w (codes "I") then Some Index
@@ -36,6 +36,6 @@ abbrev pub or_register : Option ℕ → Option Item → Option Item
 or_register (Some x) other = Some (Register x)
 or_register None other = other
 
--- the item that a word means
+-- the item that a word names
 abbrev pub item_of_word : List ℕ → Option Item
 item_of_word w = or_register (register_of w) (other_item w)

@@ -1,4 +1,4 @@
-//! Chooses the place at which a fault of a property is shown, and the help for it.
+//! Chooses the place at which the fault of a property is shown, and the help for the fault.
 
 ghost use Rattle.std.specs.Prelude.{◌≤◌, IfOk, length};
 ghost use Rattle.chip_properties.specs.Lines.{StandsAt};
@@ -53,9 +53,9 @@ pub(crate) fn fault_found(
     })
 }
 
-/// Returns the bytes of a line that hold the tokens of a fault. The text of the property begins at
-/// `start`. If the text has no tokens, these are the bytes of the mark before it; if the fault is past
-/// the last token, the place after that.
+/// Returns the range of a line that contains the tokens of a fault. The text of the property begins
+/// at `start`. If the text has no tokens, the range is the mark before it; if the fault is past the
+/// last token, the empty range after the last token.
 fn span_of(tokens: &[Token], line: &[u8], start: usize, found: Found) -> Span
     ensures rises { result.start ≤ result.end }
     ensures inside { result.end ≤ length line.now }
@@ -79,7 +79,7 @@ fn span_of(tokens: &[Token], line: &[u8], start: usize, found: Found) -> Span
     }
 }
 
-/// Returns a fault at fewer tokens, or with another code, if that says more.
+/// Returns a fault at fewer tokens, or with a different code, if that fault is more precise.
 fn narrowed(source: &Source, tokens: &[Lexeme], found: Found) -> Found {
     match found.code {
         FaultCode::NoComparison => match first_bad(tokens) {
@@ -107,8 +107,8 @@ fn first_bad(tokens: &[Lexeme]) -> Option<Found> {
     None
 }
 
-/// If the first word of a property was meant as the word for a kind, returns both words. Returns `None`
-/// if it is a name of the source, a word of properties, or followed by a sign as a value is.
+/// If the first word of a property was meant as the word for a kind, returns both words. Returns `None` if the first
+/// word is a name of the source or a word of properties, or if a sign follows it as after a value.
 fn kind_meant<'a>(source: &Source, tokens: &'a [Lexeme]) -> Option<(&'a [u8], &'static str)> {
     let (Lexeme::Word(word), rest) = tokens.split_first()? else {
         return None;
@@ -124,8 +124,8 @@ fn kind_meant<'a>(source: &Source, tokens: &'a [Lexeme]) -> Option<(&'a [u8], &'
     Some((word, other_kind(word)?))
 }
 
-/// Returns a fault at the first of some tokens that a property can't ask for. If there is none, returns
-/// one at the token after a value, if it can't come there.
+/// Returns a fault at the first of these tokens that a property can't use. If there is none, narrows the fault to a
+/// sign at the front or to the token after a value, if that token can't come there.
 fn misplaced(tokens: &[Lexeme], found: Found) -> Found {
     for index in found.first..found.end.min(tokens.len()) {
         if why_not_asked(&tokens[index]).is_some() {
@@ -142,7 +142,7 @@ fn misplaced(tokens: &[Lexeme], found: Found) -> Found {
     }
 }
 
-/// Returns a fault at the first of some tokens that is a name without a value.
+/// Returns a fault at the first of these tokens that is a name without a value.
 fn undefined(source: &Source, tokens: &[Lexeme], found: Found) -> Found {
     for index in found.first..found.end.min(tokens.len()) {
         if let Lexeme::Word(word) = &tokens[index]
@@ -158,7 +158,7 @@ fn undefined(source: &Source, tokens: &[Lexeme], found: Found) -> Found {
     found
 }
 
-/// If a token is the word for a value that a property can't ask for, returns the reason.
+/// If a token is the word for a value that a property can't use, returns the reason.
 fn why_not_asked(token: &Lexeme) -> Option<&'static [u8]> {
     if is_the(b"ST", token) {
         Some(b"the search ignores ST; use DT or a register")
@@ -173,7 +173,7 @@ fn why_not_asked(token: &Lexeme) -> Option<&'static [u8]> {
     }
 }
 
-/// Returns the reason why a property can't ask for what a token means, or nothing.
+/// Returns the reason why a property can't use the value that a token names, or an empty text.
 fn why_not(token: &Lexeme) -> &'static [u8] {
     if is_the(b"HERE", token) {
         b"here needs a line of the source; write at and a name or a number"
@@ -182,7 +182,7 @@ fn why_not(token: &Lexeme) -> &'static [u8] {
     }
 }
 
-/// Returns help with a fault of a property of this text, which shows these bytes, or nothing.
+/// Returns help for a fault of a property with this text, which shows these bytes, or an empty text.
 fn longer_help(
     reader: &Reader<'_>,
     text: &[u8],
@@ -199,7 +199,7 @@ fn longer_help(
     }
 }
 
-/// Returns help with a fault at some tokens, or nothing.
+/// Returns help for a fault at some tokens, or an empty text.
 fn help_for(reader: &Reader<'_>, tokens: &[Lexeme], found: Found) -> Result<Vec<u8>, AllocError> {
     let alloc = reader.alloc;
     let (before, rest) = tokens.split_at(found.first.min(tokens.len()));
@@ -236,13 +236,13 @@ fn help_for(reader: &Reader<'_>, tokens: &[Lexeme], found: Found) -> Result<Vec<
     Vec::from_slice(alloc, help)
 }
 
-/// Returns help with a word that was meant as the word for a kind: how that one is written.
+/// Returns help for a word that was meant as the word for a kind: the right spelling of that word.
 fn kind_help(alloc: Global, word: &[u8], kind: &str) -> Result<Vec<u8>, AllocError> {
     let written = format!(in alloc; " is written {kind} here, as in ;! {kind} V0 < 3")?;
     [word, written.as_bytes()].concat(alloc)
 }
 
-/// Returns help with a token that belongs to a phrase of other languages. `rest` begins with the token.
+/// Returns help for a token that belongs to a phrase of other languages. `rest` begins with the token.
 fn help_on_phrase(token: &Lexeme, before: &[Lexeme], rest: &[Lexeme]) -> Option<&'static [u8]> {
     let is_arrow = matches!(token, Lexeme::Sign(b'=' | b'-')) && second_is(b'>', rest);
     if is_conditional(token)
@@ -276,21 +276,21 @@ fn help_on_phrase(token: &Lexeme, before: &[Lexeme], rest: &[Lexeme]) -> Option<
     }
 }
 
-/// Whether some tokens end with a word.
+/// Whether these tokens end with this word.
 fn is_last(word: &[u8], tokens: &[Lexeme]) -> bool {
     tokens.last().is_some_and(|last| is_the(word, last))
 }
 
-/// Whether the second of some tokens is a sign.
+/// Whether the second of these tokens is this sign.
 fn second_is(sign: u8, tokens: &[Lexeme]) -> bool {
     tokens.get(1).is_some_and(|next| is_sign_of(sign, next))
 }
 
-/// Help with a register among names and numbers.
+/// Help for a register among names and numbers.
 const NAMES_ALONE: &[u8] =
     b"parentheses and brackets take only names and numbers, as in V0 <= (SIZE - 1)";
 
-/// Returns help with a token that can't come after those before it, or nothing. `rest` begins with the token.
+/// Returns help for a token that can't follow the tokens before it, or an empty text. `rest` begins with the token.
 fn help_at(token: &Lexeme, before: &[Lexeme], rest: &[Lexeme]) -> &'static [u8] {
     let last = before.last();
     let follows = |sign: u8| last.is_some_and(|last| is_sign_of(sign, last));
@@ -335,21 +335,21 @@ fn help_at(token: &Lexeme, before: &[Lexeme], rest: &[Lexeme]) -> &'static [u8] 
     }
 }
 
-/// Whether a sign was meant to stand between two comparisons: it is written twice, or there is a relation
-/// on each side. `rest` begins with the sign.
+/// Whether a sign was meant to join two comparisons: it is written twice, or there is a relation on
+/// each side of it. `rest` begins with the sign.
 fn stands_between(sign: u8, before: &[Lexeme], rest: &[Lexeme]) -> bool {
     second_is(sign, rest) || has_relation(before) && has_relation(rest)
 }
 
-/// Whether there is a relation among some tokens.
+/// Whether these tokens contain a relation.
 fn has_relation(tokens: &[Lexeme]) -> bool {
     tokens
         .iter()
         .any(|token| matches!(token, Lexeme::Sign(b'=' | b'<' | b'>')))
 }
 
-/// Returns help with a word that can't come after the tokens before it, or nothing. `rest` begins with
-/// the word.
+/// Returns help for a word that can't follow the tokens before it, or an empty text. `rest` begins
+/// with the word.
 fn help_at_word(word: &[u8], before: &[Lexeme], rest: &[Lexeme]) -> &'static [u8] {
     let follows_at = is_last(b"AT", before);
     if is_stop_word(word) && !follows_at && !has_relation(before) && !has_relation(rest) {
@@ -375,7 +375,7 @@ fn help_at_word(word: &[u8], before: &[Lexeme], rest: &[Lexeme]) -> &'static [u8
     }
 }
 
-/// The words with which authors ask for a crash or an end, in upper case.
+/// The words that authors use to ask for a crash or an end, in upper case.
 const STOP_WORDS: &[&[u8]] = &[
     b"CRASH", b"CRASHES", b"HALTS", b"STOPS", b"STOPPED", b"S1", b"S2", b"S3", b"S4", b"S5", b"S6",
     b"S7",
@@ -385,7 +385,7 @@ fn is_stop_word(word: &[u8]) -> bool {
     STOP_WORDS.iter().any(|known| *known == word)
 }
 
-/// Whether some tokens end with something that a property may ask for.
+/// Whether these tokens end with an item that a property can use.
 fn ends_with_item(tokens: &[Lexeme]) -> bool {
     match tokens.last() {
         Some(Lexeme::Word(word)) => is_item_word(word.get()),
@@ -393,12 +393,12 @@ fn ends_with_item(tokens: &[Lexeme]) -> bool {
     }
 }
 
-/// Whether a word in upper case begins something that a property may ask for.
+/// Whether a word in upper case begins an item that a property can use.
 fn is_item_word(word: &[u8]) -> bool {
     item_of_word(word).is_some() || word == b"PIXEL".as_slice()
 }
 
-/// Whether some tokens end with a sign that a value follows.
+/// Whether these tokens end with a sign that comes before a value.
 fn ends_with_sign(tokens: &[Lexeme]) -> bool {
     matches!(
         tokens.last(),
@@ -406,7 +406,7 @@ fn ends_with_sign(tokens: &[Lexeme]) -> bool {
     )
 }
 
-/// Returns help with a word for a kind that doesn't come first.
+/// Returns help for a word for a kind that doesn't come first.
 fn help_at_kind(kind: Kind) -> &'static [u8] {
     match kind {
         Kind::Always => b"put always first, as in ;! always V0 < 3",
@@ -416,7 +416,7 @@ fn help_at_kind(kind: Kind) -> &'static [u8] {
     }
 }
 
-/// Returns help with a word that is no name of the source: the name that it is nearest to, if one is near.
+/// Returns help for a word that isn't a name of the source: the nearest name, if any name is near.
 fn near_help(reader: &Reader<'_>, word: &[u8]) -> Result<Vec<u8>, AllocError> {
     let mut help = Vec::new(reader.alloc);
     let mut most = most_edits(word);

@@ -11,13 +11,13 @@ use std::alloc::AllocError;
 pub enum FaultCode {
     /// P1: the line states nothing.
     NothingStated,
-    /// P2: no comparison or no place where one is expected.
+    /// P2: a comparison or a place is missing where one is expected.
     NoComparison,
     /// P3: a name without a value.
     UndefinedName,
-    /// P4: a value below 0, an address past the memory, or a point off the screen.
+    /// P4: a value below 0, an address past the memory, or a pixel off the screen.
     OutOfRange,
-    /// P5: something that a property can't ask for.
+    /// P5: a value that a property can't use.
     NotAsked,
     /// P6: too many comparisons, terms, properties, or open parentheses.
     TooMany,
@@ -39,7 +39,7 @@ impl FaultCode {
         }
     }
 
-    /// Returns what the fault says, as a sentence without a newline.
+    /// Returns the message of the fault, a sentence without a newline.
     pub fn sentence(self) -> &'static [u8] {
         match self {
             FaultCode::NothingStated => {
@@ -57,16 +57,16 @@ impl FaultCode {
 /// The reason why a line can't be read as a property, and the place of the fault.
 #[derive(Drop)]
 pub struct PropertyFault {
-    /// The number of the line, counted from 1, or 0 for a text of its own.
+    /// The number of the line, counted from 1, or 0 for a text outside a source.
     pub line: usize,
     pub code: FaultCode,
-    /// The bytes of the line's text where the fault is.
+    /// The range of the line's text at which the fault lies.
     pub span: Span,
-    /// Advice on what to write, as one sentence without a newline, or nothing.
+    /// Advice on what to write, as one sentence without a newline, or an empty text.
     pub help: Vec<u8>,
 }
 
-/// A fault at some tokens of a property, from the one with index `first` up to the one before `end`.
+/// A fault at the tokens of a property from index `first` up to, but not including, index `end`.
 #[derive(Clone, Copy)]
 pub(crate) struct Found {
     pub(crate) code: FaultCode,
@@ -89,7 +89,7 @@ impl Found {
 #[derive(Drop)]
 pub(crate) enum Failure {
     OutOfMemory,
-    /// The tokens aren't what is expected there.
+    /// The tokens don't form the expected part.
     Fault(Found),
 }
 

@@ -1,9 +1,9 @@
 //! The limits of properties.
 
-/// The largest number of comparisons of a condition.
+/// The largest number of comparisons in a condition.
 pub const MOST_COMPARISONS: usize = 16;
 
-/// The largest number of numbers and terms of a sum.
+/// The largest number of addends (numbers and terms) in a sum.
 pub const MOST_TERMS: usize = 16;
 
 /// The largest number of lines of a source that are read as properties.

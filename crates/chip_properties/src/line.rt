@@ -9,8 +9,8 @@ ghost use Rattle.chip_properties.specs.Lines.{mark_end, property_text_of, trimme
 use chip_lang::{Bytes, Lexeme, lexemes};
 use std::alloc::{AllocError, Global};
 
-/// Returns what a line states: its text after `;!`, without blanks at both ends. Returns `None` if the
-/// first bytes of the line other than blanks aren't `;!`.
+/// Returns the text of a line's property: the text after `;!`, without blanks at both ends. Returns
+/// `None` if the first bytes of the line other than blanks aren't `;!`.
 pub fn property_text(line: &[u8]) -> Option<&[u8]>
     ensures { option_copied result ≡ property_text_of line.now }
 {
@@ -18,8 +18,8 @@ pub fn property_text(line: &[u8]) -> Option<&[u8]>
     Some(trimmed(&line[start..]))
 }
 
-/// Returns the words of the property on a line, in upper case: the names in it, and the language's own
-/// words. There are none if the line states nothing.
+/// Returns the words of the property on a line, in upper case: the names in it and the language's
+/// own words. The list is empty if the line states no property.
 ///
 /// # Errors
 ///
@@ -53,7 +53,7 @@ pub(crate) fn mark_end(line: &[u8]) -> Option<usize>
     }
 }
 
-/// Returns the number of blanks in front of some bytes.
+/// Returns the number of blanks at the front of some bytes.
 fn front_blanks(bytes: &[u8]) -> usize
     ensures value { result ≡ prefix_len is_blank bytes.now }
     ensures within { result ≤ length bytes.now }

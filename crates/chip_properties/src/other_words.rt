@@ -4,29 +4,29 @@ use crate::near::{fewest_edits, most_edits};
 use chip_lang::{Lexeme, is_sign_of, is_the};
 use std::alloc::{AllocError, Global};
 
-/// Words that state a condition on a condition in other languages.
+/// Words that make a condition depend on another condition in other languages.
 const CONDITIONALS: &[&str] = &[
     "IF", "WHEN", "WHENEVER", "WHILE", "UNLESS", "THEN", "IMPLIES",
 ];
 
-/// Help with a condition on a condition.
+/// Help for a condition that depends on another condition.
 pub(crate) const IMPLICATION: &[u8] =
     b"a property has no if: write never V1 = 3 and V0 <> 5 in place of if V1 = 3 then V0 = 5";
 
-/// Whether a token is a word that states a condition on a condition in other languages.
+/// Whether a token is one of the `CONDITIONALS`.
 pub(crate) fn is_conditional(token: &Lexeme) -> bool {
     CONDITIONALS
         .iter()
         .any(|word| is_the(word.as_bytes(), token))
 }
 
-/// Help with a place.
+/// Help for a place.
 const PLACE: &[u8] = b"write at before a place, as in V0 <= 8 at LOOP";
 
-/// Help with a range of values.
+/// Help for a range of values.
 const RANGE: &[u8] = b"write two comparisons for a range, as in V0 >= 1 and V0 <= 5";
 
-/// Returns help with a word in upper case that other languages use in place of a sign.
+/// Returns help for a word in upper case that other languages use in place of a sign.
 pub(crate) fn word_help(word: &[u8]) -> Option<&'static [u8]> {
     match word {
         b"IS" | b"EQ" | b"EQUALS" => Some(b"write = for equal"),
@@ -36,7 +36,7 @@ pub(crate) fn word_help(word: &[u8]) -> Option<&'static [u8]> {
     }
 }
 
-/// Returns help with the text of a fault that begins with a sign or a number of other languages.
+/// Returns help for the text of a fault that begins with a sign or a number of other languages.
 pub(crate) fn text_help(text: &[u8]) -> Option<&'static [u8]> {
     match text {
         [b'!', ..] => Some(b"write never for not, and <> or != for unequal"),
@@ -52,8 +52,8 @@ pub(crate) fn text_help(text: &[u8]) -> Option<&'static [u8]> {
     }
 }
 
-/// Returns help with a text that is a hexadecimal number with a dollar sign before its digits, as others
-/// write it.
+/// Returns help for a hexadecimal number that begins with a dollar sign, as other languages write
+/// it.
 pub(crate) fn hexadecimal_help(alloc: Global, text: &[u8]) -> Result<Option<Vec<u8>>, AllocError> {
     let [b'$', digits @ ..] = text else {
         return Ok(None);
@@ -69,8 +69,8 @@ pub(crate) fn hexadecimal_help(alloc: Global, text: &[u8]) -> Result<Option<Vec<
     Ok(Some([front, digits].concat(alloc)?))
 }
 
-/// Whether a sign, together with one beside it, means unequal in other languages. `rest` begins with the
-/// sign.
+/// Whether a sign and a neighboring one together mean unequal in other languages. `rest` begins
+/// with the sign.
 pub(crate) fn is_unequal(token: &Lexeme, before: &[Lexeme], rest: &[Lexeme]) -> bool {
     let is_slash = matches!(token, Lexeme::Sign(b'/' | b'\\'));
     let is_sign = is_slash || matches!(token, Lexeme::Sign(b'~' | b'^'));
@@ -82,7 +82,7 @@ fn is_equal_sign(token: Option<&Lexeme>) -> bool {
     token.is_some_and(|token| is_sign_of(b'=', token))
 }
 
-/// The word for each kind, in lower and in upper case, and the words that others use for it.
+/// The word for each kind, in lower and in upper case, and the words that other languages use for it.
 const OTHER_WORDS: &[(&str, &str, &[&str])] = &[
     (
         "always",
@@ -121,8 +121,8 @@ const OTHER_WORDS: &[(&str, &str, &[&str])] = &[
     ("can", "CAN", &["COULD", "MAY", "POSSIBLE", "POSSIBLY"]),
 ];
 
-/// Returns the word for the kind that a word in upper case means elsewhere, or that it is almost spelled
-/// like.
+/// Returns the word for the kind that a word in upper case means in other languages, or whose
+/// spelling is near that word.
 pub(crate) fn other_kind(word: &[u8]) -> Option<&'static str> {
     for (kind, _, others) in OTHER_WORDS {
         if others.iter().any(|other| word == other.as_bytes()) {
@@ -132,7 +132,7 @@ pub(crate) fn other_kind(word: &[u8]) -> Option<&'static str> {
     near_kind(word)
 }
 
-/// Returns the word for a kind that a word in upper case is almost spelled like.
+/// Returns the word for a kind whose spelling is near a word in upper case.
 fn near_kind(word: &[u8]) -> Option<&'static str> {
     let most = most_edits(word);
     for (kind, upper, _) in OTHER_WORDS {

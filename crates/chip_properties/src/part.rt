@@ -45,7 +45,7 @@ impl<'a> Part<'a> {
         }
     }
 
-    /// Returns the tokens before the first separator, and the tokens from it on.
+    /// Returns the tokens before the first separator, and the tokens from that separator on.
     pub(crate) fn split_at(self, separator: Separator) -> (Self, Self)
         ensures front { result.0.tokens.now ≡ before_first separator self.entry.tokens.now }
         ensures back { result.1.tokens.now ≡ from_first separator self.entry.tokens.now }
@@ -71,7 +71,7 @@ impl<'a> Part<'a> {
         }
     }
 
-    /// Returns the tokens between two signs, if the part begins and ends with these.
+    /// Returns the tokens between two signs, if the part begins and ends with these signs.
     pub(crate) fn between(self, begin: u8, end: u8) -> Option<Self>
         ensures { option_map tokens_in result ≡ enclosed begin end self.entry.tokens.now }
     {

@@ -1,4 +1,4 @@
-//! Help with a property that continues after its place.
+//! Help for a property that continues after its place.
 
 use crate::fault::{Failure, FaultCode, Found};
 use crate::other_words::is_conditional;
@@ -9,8 +9,8 @@ use crate::words::kind_of_word;
 use chip_lang::{Lexeme, Token, is_sign_of, is_the, tokens};
 use std::alloc::{AllocError, Global};
 
-/// Returns help with a property of this text and these tokens that continues after its place: the
-/// property with the place at its end. Returns `None` if that can't be read either.
+/// Returns help for a property with this text and these tokens that continues after its place: the
+/// property with the place moved to its end. Returns `None` if that text can't be read either.
 pub(crate) fn place_help(
     reader: &Reader<'_>,
     text: &[u8],
@@ -35,7 +35,7 @@ pub(crate) fn place_help(
     }
 }
 
-/// The tokens of a place, from `first` up to the one before `end`.
+/// The tokens of a place, from index `first` up to, but not including, index `end`.
 #[derive(Clone, Copy)]
 struct Place {
     first: usize,
@@ -96,7 +96,7 @@ fn with_place_last(
     Ok(written)
 }
 
-/// Whether more than the word for a kind comes before a place.
+/// Whether anything other than the word for a kind comes before a place.
 fn has_condition(parts: &[Lexeme], first: usize) -> bool {
     match parts.first() {
         Some(Lexeme::Word(word)) if kind_of_word(word.get()).is_some() => first > 1,
@@ -104,7 +104,7 @@ fn has_condition(parts: &[Lexeme], first: usize) -> bool {
     }
 }
 
-/// Returns the text of the tokens from `first` up to the one before `end`.
+/// Returns the text of the tokens from index `first` up to, but not including, index `end`.
 fn text_of<'t>(text: &'t [u8], tokens: &[Token], first: usize, end: usize) -> &'t [u8] {
     match (tokens.get(first), tokens.get(end.saturating_sub(1))) {
         (Some(begin), Some(last)) if first < end => text.get(begin.start..last.end).unwrap_or(&[]),

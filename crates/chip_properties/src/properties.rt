@@ -25,16 +25,16 @@ use chip_asm::{LineView, Source};
 use chip_explore::Property;
 use std::alloc::{AllocError, Global};
 
-/// The properties that a source states, and the faults of those that can't be read, each in the order of
-/// the lines.
+/// The properties that a source states, and the faults of the properties that can't be read, each
+/// in line order.
 #[derive(Drop)]
 pub struct Properties {
     pub stated: Vec<Stated>,
     pub faults: Vec<PropertyFault>,
 }
 
-/// Reads the properties of a source: its active lines that begin with `;!`. At most `MOST_PROPERTIES` of
-/// them are read.
+/// Reads the properties of a source: its active lines that begin with `;!`. Reads at most
+/// `MOST_PROPERTIES` of these lines.
 ///
 /// # Errors
 ///
@@ -61,7 +61,7 @@ impl Properties {
         self.stated.len().saturating_add(self.faults.len()) < MOST_PROPERTIES
     }
 
-    /// Adds what the line with a number states, if it states something.
+    /// Adds the property or the fault of the line with a number, if the line states a property.
     fn read_line(&mut self, alloc: Global, source: &Source, number: usize) -> Result<(), AllocError>
         requires { length self.old.stated.items + length self.old.faults.items
             ≡ count_in source.now.lines (number - 1) }
@@ -88,8 +88,8 @@ impl Properties {
     }
 }
 
-/// Returns what a line states. The text of its property begins at `start` in the line. If there is no
-/// room for one more property, returns a fault without reading it.
+/// Returns the property that a line states. The text of the property begins at `start` in the line.
+/// If there is no room for one more property, returns a fault without reading the text.
 fn property_on(
     alloc: Global,
     source: &Source,
@@ -129,8 +129,8 @@ fn property_start(line: &LineView<'_>) -> Option<usize>
     }
 }
 
-/// Returns what a text by itself states about a source. The text is a property without `;!` and without
-/// the word for its kind; `here` can't be used in it.
+/// Returns the property that a separate text states about a source. The text is a property without
+/// `;!` and without the word for its kind; `here` can't be used in it.
 ///
 /// # Errors
 ///
@@ -161,8 +161,8 @@ pub fn property_of_text(
 }
 
 impl<'a> Reader<'a> {
-    /// Returns what the line with a number states. The text of its property begins at `start` in the
-    /// line. If no kind is given, the property may begin with one.
+    /// Returns the property that the line with a number states. The text of the property begins at
+    /// `start` in the line. If no kind is given, the property may begin with the word for one.
     fn read(
         &self,
         kind: Option<Kind>,

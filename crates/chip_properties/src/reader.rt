@@ -19,8 +19,8 @@ use chip_lang::limits::MEMORY_BYTES;
 use chip_lang::{Fault, Lexeme, eval, is_sign_of, is_the, parse_expression};
 use std::alloc::Global;
 
-/// The context in which a property is read: the source, whose names have values, and the address of the
-/// property's line, if it is on one.
+/// The context in which a property is read: the source, which determines the values of names, and
+/// the address of the property's line, if the property is on a line.
 #[derive(Drop)]
 pub(crate) struct Reader<'a> {
     pub(crate) alloc: Global,
@@ -29,8 +29,8 @@ pub(crate) struct Reader<'a> {
 }
 
 impl<'a> Reader<'a> {
-    /// Returns what a property of a kind states. If no kind is given, the property may begin with one,
-    /// and is `Always` otherwise.
+    /// Returns the property that tokens state, with its kind. If no kind is given, the property may
+    /// begin with the word for one, and is `Always` otherwise.
     pub(crate) fn stated(
         &self,
         kind: Option<Kind>,
@@ -49,7 +49,7 @@ impl<'a> Reader<'a> {
         }
     }
 
-    /// Returns what a property of a kind states, without the word for its kind.
+    /// Returns the property of a kind that tokens state, without the word for its kind.
     fn property(&self, kind: Kind, part: Part<'_>) -> Result<Property, Failure>
         ensures { IsReadAs seen_property
             (property_in (symbols_read self.now) self.now.here kind part.entry.tokens.now) result }
@@ -214,7 +214,7 @@ impl<'a> Reader<'a> {
         }
     }
 
-    /// Reads an item that a property may ask for.
+    /// Reads an item that a property can use.
     fn item(&self, part: Part<'_>) -> Result<Item, Failure>
         ensures { IsRead (item_in (symbols_read self.now) part.entry.tokens.now) result }
     {
@@ -300,7 +300,7 @@ impl<'a> Reader<'a> {
     }
 }
 
-/// Whether tokens begin like something that a property may ask for.
+/// Whether tokens begin like an item that a property can use.
 fn is_item(tokens: &[Lexeme]) -> bool
     ensures { result ≡ is_item tokens.now }
 {
@@ -311,7 +311,7 @@ fn is_item(tokens: &[Lexeme]) -> bool
     }
 }
 
-/// Returns the kind with which tokens begin, if any.
+/// Returns the kind whose word tokens begin with, if any.
 fn kind_in_front(tokens: &[Lexeme]) -> Option<Kind>
     ensures value { result ≡ kind_in_front tokens.now }
     ensures some { IfSome result (λ _. 1 ≤ length tokens.now) }

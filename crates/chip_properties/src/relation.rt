@@ -6,7 +6,7 @@ ghost use Rattle.chip_properties.specs.computed.Reading.{relation_in};
 use chip_explore::Relation;
 use chip_lang::{Lexeme, is_sign_of};
 
-/// Returns the relation with which tokens begin, and the number of its tokens.
+/// Returns the relation that tokens begin with, and the number of its tokens.
 pub(crate) fn relation_in_front(tokens: &[Lexeme]) -> Option<(Relation, usize)>
     ensures value { option_map (λ found. (found.0, drop found.1 tokens.now)) result
         ≡ relation_in tokens.now }

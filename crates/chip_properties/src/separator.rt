@@ -16,7 +16,7 @@ pub(crate) enum Separator {
     And,
     /// `or`.
     Or,
-    /// A sign with which a relation begins.
+    /// A sign that a relation begins with.
     Relation,
     /// `+`.
     Plus,

@@ -11,17 +11,17 @@ pub enum Kind {
     Never,
     /// Under some key script, the condition of the property holds at a step at its place.
     Ever,
-    /// Under each key script, from each step on, the keys can be pressed so that the condition holds then
-    /// or later at a step at its place, or where the machine has stopped there.
+    /// Under each key script, from each step on, the keys can be pressed so that the condition
+    /// holds then or later: at a step at its place, or on a machine that has stopped there.
     Can,
 }
 
-/// A property that is stated.
+/// A property that an author states.
 #[derive(Drop)]
 pub struct Stated {
-    /// The number of the line, counted from 1, or 0 for a text of its own.
+    /// The number of the line, counted from 1, or 0 for a text outside a source.
     pub line: usize,
     pub kind: Kind,
-    /// The property that a search looks for. For `Always`, it is met where the condition fails.
+    /// The property that a search looks for. For `Always`, this property is met if the condition fails.
     pub property: Property,
 }

@@ -21,7 +21,7 @@ pub(crate) fn no_sum(alloc: Global) -> Sum
     }
 }
 
-/// Adds the number that some tokens are to a sum, if its numbers together have at most 32 bits.
+/// Adds a number to a sum, if the sum's numbers together have at most 32 bits.
 pub(crate) fn with_number(sum: Sum, part: Part<'_>, number: u32) -> Result<Sum, Failure>
     ensures { IsReadAs seen_sum (with_addend (seen_sum sum) (a_number number)) result }
 {

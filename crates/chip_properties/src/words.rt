@@ -21,7 +21,7 @@ pub(crate) fn is_property_word(word: &[u8]) -> bool
         || word == b"PIXEL".as_slice()
 }
 
-/// Returns the kind of property that a word in upper case begins.
+/// Returns the kind of property whose word a word in upper case is.
 pub(crate) fn kind_of_word(word: &[u8]) -> Option<Kind>
     ensures { result ≡ kind_of_word word.now }
 {
@@ -38,7 +38,7 @@ pub(crate) fn kind_of_word(word: &[u8]) -> Option<Kind>
     }
 }
 
-/// Returns the item that a word in upper case means.
+/// Returns the item that a word in upper case names.
 pub(crate) fn item_of_word(word: &[u8]) -> Option<Item>
     ensures { result ≡ item_of_word word.now }
 {

@@ -6,7 +6,7 @@ use Rattle.chip_replay.specs.Limits.{last_step, memory_size, never}
 use Rattle.chip_replay.specs.Run.{run}
 use Rattle.chip_replay.specs.inner.Kept.{IsFirst, IsTouched}
 
--- a step up to n is noted if it passes the test
+-- step t is recorded if it passes the test
 noted_by : (b : Bool) (p : ℕ → Bool) (n t v w : ℕ) → p t ≡ b → IsFirst p n v → t ≤ n → t < never → w ≡ cond b (min v t) v → IsFirst p (max n (t + 1)) w
 noted_by true p n t v w passes f l small e =
     record {
@@ -29,7 +29,7 @@ module _ {S : Type 0} (after : S → ℕ → Bool → S) (touches : S → ℕ �
   abbrev pub state : ℕ → S
   state = run after rate held start
 
-  -- the state after n steps from one of the run
+  -- the state after n steps from a state of the run
   pub block_is : (n : ℕ) → block after rate held at s n ≡ state (at + n)
   block_is zero = let place : at ≡ at + 0 = omega arith in here ∙ ap state place
   block_is (suc n) =

@@ -1,4 +1,4 @@
--- The key events in the order of their steps, entry by entry.
+-- The key events, ordered by step, entry by entry.
 use Rattle.std.proofs.Common.{◌≡◌, ◌≢◌, ℕ, zero, suc, ◌+◌, ◌-◌, ◌<◌, ◌≤◌, Bool, false, add-one, List, [], ◌∷◌, length, length-set, set, get_or, slice_index_or, Some, None, refl, sym, ap, ◌∙◌, subst, arith, inl, inr, get_or-set_same, get_or-set_other}
 use Rattle.std.proofs.lemmas.Bool.{cases_eq, cases_lt}
 use Rattle.std.proofs.lemmas.List.{get_or_default}
@@ -24,7 +24,7 @@ pub was_down-above : (events : Events) (key step : ℕ) → step ≢ 0 → was_d
 was_down-above events key zero n = absurd (n refl)
 was_down-above events key (suc step) n = let same : step ≡ suc step - 1 = omega arith in ap (is_down events key) same
 
--- the keys known when a step begins are held in it, if no event is passed
+-- the keys known at the start of a step are held in it, if no event is passed
 pub knows_holds : (events : Events) (s : ℕ) (h : Holding) → KnowsKeys events s h → s < h.until → HoldsKeys events s h
 knows_holds events s h knows within =
     record {
@@ -44,7 +44,7 @@ holds_later events s t h holds later within =
       stays = λ r k lr lu lk. holds.stays r k (omega arith) lu lk;
     }
 
--- no key is down before the first events
+-- no key is down before the first event
 pub knows_none : (events : Events) (s : ℕ) (h : Holding) → h.until ≡ 0 → length h.down ≡ 16 → h.keys ≡ mask (λ k. slice_index_or h.down k false) 16 → ((k : ℕ) → k < 16 → slice_index_or h.down k false ≡ false) → KnowsKeys events s h
 knows_none events s h none size as_mask up =
     record {
@@ -57,12 +57,12 @@ pub holds_held : (events : Events) (s : ℕ) (h : Holding) → HoldsKeys events 
 unfolding held
 holds_held events s h holds = holds.as_mask ∙ mask-same _ _ 16 (λ k l. sym (holds.stays s k (omega arith) holds.within l))
 
--- if there is no event from one step up to another, the key stays as it was
+-- if there is no event from one step up to another, the key stays down or up
 is_down-was_down : (events : Events) (k from s : ℕ) → from ≤ s + 1 → ((r : ℕ) → from ≤ r → r ≤ s → event_at events r k ≡ None) → is_down events k s ≡ was_down events k from
 is_down-was_down events k zero s l none = is_down-none events k s (λ r lr. none r (omega arith) lr)
 is_down-was_down events k (suc from) s l none = is_down-stays events k from s (omega arith) (λ r lf lr. none r (omega arith) lr)
 
--- the known keys under events that hold the same keys in each step
+-- the known keys, under events that hold the same keys in each step
 was_same : (events later : Events) → held later ≡ held events → (k s : ℕ) → k < 16 → was_down later k s ≡ was_down events k s
 unfolding held
 was_same events later same k zero l = refl
@@ -82,7 +82,7 @@ length-after down es zero = refl
 length-after down [] (suc n) = refl
 length-after down (e ∷ es) (suc n) = length-after (set down e.key e.down) es n ∙ length-set down e.key e.down
 
--- the last of the first events sets its key after the others
+-- the last of the first n events sets its key after the other events
 after_suc : (down : List Bool) (es : List Event) (n : ℕ) (d : Event) → n < length es → after_events down es (suc n) ≡ set (after_events down es n) (get_or es n d).key (get_or es n d).down
 after_suc down [] n d l = absurd (omega (arith, l))
 after_suc down (e ∷ es) zero d l = refl
@@ -91,8 +91,8 @@ after_suc down (e ∷ es) (suc n) d l = after_suc (set down e.key e.down) es n d
 pub after_more : (down : List Bool) (es : List Event) (n : ℕ) (d : Event) → n < length es → after_events down es (n + 1) ≡ set (after_events down es n) (get_or es n d).key (get_or es n d).down
 after_more down es n d l = ap (after_events down es) (add-one n) ∙ after_suc down es n d l
 
--- the table after the events in order up to a place: it gives for each key the state in each step
--- that includes these events and no later event of that key
+-- the table after the events in order up to an index: for each key, it contains the key's state in
+-- each step that includes these events and no later event of that key
 abbrev pub IsUpTo : Events → List Event → ℕ → ℕ → List Bool → Type 0
 IsUpTo events es from place down =
     (k s : ℕ) → k < 16 → from ≤ s + 1
@@ -111,7 +111,7 @@ module _ (events : Events) (es : List Event) (order : IsInOrder es) (same : Says
         | inr a ↦ late i d a li (omega (arith, p)) q
       ])) ∙ before k lk
 
-  -- the event at the place is passed
+  -- the event at the index is passed
   pub up_to_more : (from place : ℕ) (down : List Bool) (e : Event) → place < length es → ((d : Event) → get_or es place d ≡ e) → length down ≡ 16 → IsUpTo events es from place down → IsUpTo events es from (place + 1) (set down e.key e.down)
   up_to_more from place down e inside there size before k s lk lf early late = elim (cases_eq k e.key) [
     | inl is ↦ (
@@ -138,7 +138,7 @@ module _ (events : Events) (es : List Event) (order : IsInOrder es) (same : Says
         ∙ sym (get_or-set_other down e.key k e.down false other))
   ]
 
-  -- the events of a part that begins at the place are passed, up to one of them
+  -- the events of a part that starts at the index are passed, up to one of them
   pub up_to_passed : (from place : ℕ) (down : List Bool) (part : List Event) (n : ℕ) → place + length part ≤ length es → ((i : ℕ) (d : Event) → i < length part → get_or es (place + i) d ≡ get_or part i d) → n ≤ length part → length down ≡ 16 → IsUpTo events es from place down → IsUpTo events es from (place + n) (after_events down part n)
   up_to_passed from place down part zero within there l size before = subst (λ p. IsUpTo events es from p down) (omega arith) before
   up_to_passed from place down part (suc n) within there l size before =
@@ -152,7 +152,7 @@ module _ (events : Events) (es : List Event) (order : IsInOrder es) (same : Says
       subst (λ p. IsUpTo events es from p (after_events down part (suc n))) next
       (subst (λ xs. IsUpTo events es from (place + n + 1) xs) (sym (after_suc down part n none inside)) passed)
 
-  -- every event in the steps before the next event's step has been passed
+  -- every event in a step before the next event's step has been passed
   pub up_to_holds : (from place step until : ℕ) (down : List Bool) → from ≤ step → IsUpTo events es from place down → ((i : ℕ) (d : Event) → i < place → (get_or es i d).step ≤ step) → ((i : ℕ) (d : Event) → place ≤ i → i < length es → until ≤ (get_or es i d).step) → (s k : ℕ) → step ≤ s → s < until → k < 16 → is_down events k s ≡ slice_index_or down k false
   up_to_holds from place step until down low before early late s k ls lu lk =
       before k s lk (omega arith) (λ i d l. omega (arith, early i d l)) (λ i d l li under q. omega (arith, late i d l li, under))
@@ -161,7 +161,7 @@ was_down-same : (events later : Events) (from t k : ℕ) → t ≤ from → ((s 
 was_down-same events later from zero k l same = refl
 was_down-same events later from (suc t) k l same = same t (omega arith) k
 
--- the keys known when a step begins, under events that agree in the steps below `from`
+-- the keys known at the start of a step, under events that agree in the steps below `from`
 pub knows_cut : (events later : Events) (t from : ℕ) (h : Holding) → t ≤ from → ((s : ℕ) → s < from → (k : ℕ) → is_down later k s ≡ is_down events k s) → KnowsKeys events t h
     → KnowsKeys later t (record h { until = min h.until from })
 knows_cut events later t from h within same before =

@@ -20,7 +20,7 @@ get_or-padded image i l =
           ∙ get_or-replicate {A = ℕ} (image_room - length image) (i - length image) 0 0 (omega arith) ∙ sym (get_or_past image i 0 a)
     ]
 
--- if the memory has the old byte, the new one is chosen
+-- if the memory contains the old byte, the new byte is chosen
 chosen-there : (old new : ℕ) → chosen old old new ≡ new
 chosen-there old new = elim (cases_eq old new) [
   | inl same ↦ chosen-same old old new same ∙ same
@@ -51,7 +51,7 @@ module _ (old new bytes : List ℕ) (old_fits : length old ≤ image_room) (new_
       (λ at l low. get_or_append_left (take image_start bytes) (padded new) 0 at (omega (arith, front)) ∙ get_or-take image_start bytes at 0 low)
       (λ at i l e. is_new at i l e ∙ sym (ap (λ x. chosen x (get_or old i 0) (get_or new i 0)) (is_old at i l e) ∙ chosen-there (get_or old i 0) (get_or new i 0)))
 
--- the patched start has the new image
+-- the patched start contains the new image
 pub patched-with_image : {S : Type 0} (old new : List ℕ) (memory : S → List ℕ) (with_memory : S → List ℕ → S) (s : S) → length old ≤ image_room → length new ≤ image_room → drop image_start (memory s) ≡ padded old → patched memory with_memory old new s ≡ with_image memory with_memory new s
 unfolding patched
 patched-with_image old new memory with_memory s lo ln e = ap (with_memory s) (sym (with_new old new (memory s) lo ln e))

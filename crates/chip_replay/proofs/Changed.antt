@@ -1,4 +1,4 @@
--- Everything kept after a change of the image is sound for the new run.
+-- Everything kept after a change of the image is valid for the new run.
 use Rattle.std.proofs.Common.{◌≡◌, ℕ, zero, suc, ◌+◌, ◌*◌, ◌/◌, ◌<◌, ◌≤◌, min, Bool, true, false, cond, not, ltb, List, [], ◌∷◌, map, take, length, get_or, slice_index, slice_index_or, refl, sym, ap, ◌∙◌, subst, arith, ◌⊎◌, inl, inr, get_or-take, length-take, ◌&&◌}
 use Rattle.std.proofs.Math.Nat.{suc-mul}
 use Rattle.std.proofs.lemmas.List.Sums.{prefix_len-le-length}
@@ -25,7 +25,7 @@ use Rattle.chip_replay.proofs.KeyFacts.{held-by}
 use Rattle.chip_replay.proofs.Patched.{AllUntouched, run-patched, run-proper, patched-proper, after-patched, same_touches}
 use Rattle.chip_replay.specs.Limits.{image_room, image_start, last_step, memory_size, never}
 
--- a first step, or none, if only the steps below m are known
+-- a first step, or `never`, if only the steps below m are known
 first_cut_by : (b : Bool) (p q : ℕ → Bool) (n m v : ℕ) → ltb v m ≡ b → IsFirst p n v → m ≤ n → ((s : ℕ) → s < m → q s ≡ p s) → IsFirst q m (cond b v never)
 first_cut_by true p q n m v e f l same =
     let below : v < m = grind (arith, nat_tests) in
@@ -47,7 +47,7 @@ later_at_most : (b : Bool) (place i : ℕ) → place ≤ i → cond (not b) (1 +
 later_at_most true place i l = omega arith
 later_at_most false place i l = omega arith
 
--- the first place that passes is not later than any place that does
+-- the first index that passes is not after any index that passes
 first-hit : {X : Type 0} (p : X → Bool) (xs : List X) (i : ℕ) (d : X) → i < length xs → p (get_or xs i d) ≡ true → position_or_len p xs ≤ i
 first-hit p [] i d l h = absurd (omega arith)
 first-hit p (x ∷ xs) zero d l h = rw h (omega arith)
@@ -70,7 +70,7 @@ touches_change-at touches old new s i l d t =
     list_any_at (λ i. differs old new i && touched touches s (image_start + i)) (range_with_len 0 image_room) i 0 (omega (arith, length-range_with_len 0 image_room))
     (ap (λ j. differs old new j && touched touches s (image_start + j)) place ∙ and_from _ _ d t)
 
--- the checkpoints, cut off at m
+-- the checkpoints, truncated at m
 pub checkpoints_cut : {M : Type 0} (proper : M → Type 0) (after : M → ℕ → Bool → M) (state : ℕ → M) (p reach m : ℕ) (cs cs' : List M) → 0 < p → AreCheckpoints proper after state p reach cs
     → m ≤ reach → cs' ≡ take (m / p) cs → AreCheckpoints proper after state p m cs'
 checkpoints_cut proper after state p reach m cs cs' above are l cut =
@@ -88,7 +88,7 @@ checkpoints_cut proper after state p reach m cs cs' above are l cut =
           subst (λ n. IsStill after (state (n * p))) same (are.ends_still (omega (arith, div_mono m reach p above l))));
     }
 
--- the table of first touches
+-- the table of first touches, truncated at m
 pub table_cut : {M : Type 0} (touches : M → ℕ → Bool) (state : ℕ → M) (table table' : List ℕ) (known m : ℕ) → IsTouched touches state known table → m ≤ known
     → table' ≡ map (λ v. cond (ltb v m) v never) table → IsTouched touches state m table'
 table_cut touches state table table' known m was l e =
@@ -98,7 +98,7 @@ table_cut touches state table table' known m was l e =
           (first_cut _ _ known m _ (was.first at la) l (λ s ls. refl));
     }
 
--- no step from m on touches anything
+-- no step at or after m touches anything
 pub table_stays : {M : Type 0} (touches : M → ℕ → Bool) (state : ℕ → M) (table : List ℕ) (known m : ℕ) → IsTouched touches state known table → m ≤ known
     → ((s a : ℕ) → m ≤ s → touches (state s) a ≡ false) → IsTouched touches state m table
 table_stays touches state table known m was l none =
@@ -117,7 +117,7 @@ table_stays touches state table known m was l none =
           });
     }
 
--- no step below m touches an address whose first touch is not below m
+-- no step below m touches an address whose first touch is m or later
 pub not_touched : {M : Type 0} (touches : M → ℕ → Bool) (state : ℕ → M) (table : List ℕ) (reach m : ℕ) → IsTouched touches state reach table → m ≤ reach → (at : ℕ) → at < memory_size
     → m ≤ slice_index table at → (s : ℕ) → s < m → touches (state s) at ≡ false
 not_touched touches state table reach m was within at la least s l =
@@ -126,7 +126,7 @@ not_touched touches state table reach m was within at la least s l =
       | false ↦ λ e. refl
     ] refl
 
--- what is kept is right for another run that agrees with the old one up to its reach, once the
+-- what is kept is correct for another run that agrees with the old run up to its reach, once the kept
 -- states are changed
 pub right_changed : {M : Type 0} (proper : M → Type 0) (touches : M → List ℕ) (after : M → ℕ → Bool → M) (rate : ℕ) (start start' : M) (events events' : Events) (kept kept' : Kept M)
     (change : M → M) → 0 < kept.spacing → IsRight proper touches after rate start events kept
@@ -184,7 +184,7 @@ run-same after rate held later start (suc t) same =
     ap (λ s. after s (later t) (ticks rate t)) (run-same after rate held later start t (λ s l. same s (omega arith)))
     ∙ ap (λ k. after (run after rate held start t) k (ticks rate t)) (same t (omega arith))
 
--- a kept run up to a step from which on the events differ
+-- a kept run, up to a step from which the events differ
 pub right_keys : {M : Type 0} (proper : M → Type 0) (touches : M → List ℕ) (after : M → ℕ → Bool → M) (rate : ℕ) (start : M) (events later : Events) (kept : Kept M) (from : ℕ)
     → 0 < kept.spacing → IsRight proper touches after rate start events kept → kept.reach ≤ from → ((s : ℕ) → s < from → (k : ℕ) → is_down later k s ≡ is_down events k s)
     → IsRight proper touches after rate start later (record kept { holding = record kept.holding { until = min kept.holding.until from } })
@@ -195,7 +195,7 @@ right_keys {M} proper touches after rate start events later kept from above righ
     (λ t l. run-same after rate (held events) (held later) start t (λ s ls. held-by events later s (same s (omega arith))))
     (λ t l. refl) (λ t l still. still) (λ t l knows. knows_cut events later t from kept.holding (omega arith) same knows)
 
--- the first step that touches a change is not above m
+-- the first step that touches a changed byte is at most m
 module _ {S : Type 0} (touches : S → List ℕ) (after : S → ℕ → Bool → S) (rate : ℕ) (held : ℕ → ℕ) (start : S) (table : List ℕ) (reach : ℕ) (small : reach ≤ last_step)
     (was : IsTouched (touched touches) (run after rate held start) reach table) (old new : List ℕ) where
   pub affected_le : (m : ℕ) → m ≤ reach → (m ≡ reach) ⊎ ((i : ℕ) × (i < image_room) × (differs old new i ≡ true) × (m ≡ slice_index table (image_start + i)))
@@ -210,7 +210,7 @@ module _ {S : Type 0} (touches : S → List ℕ) (after : S → ℕ → Bool →
         | inr a ↦ omega (arith, first_below-le (λ s. touches_change touches old new (run after rate held start s)) reach)
       ]
 
--- the case that no step touches a byte at which the images differ
+-- patching what is kept is correct if no known step touches a byte at which the images differ
 pub right_patched : {S : Type 0} (memory : S → List ℕ) (with_memory : S → List ℕ → S) (proper : S → Type 0) (touches : S → List ℕ) (after : S → ℕ → Bool → S)
     (laws : IsTraced memory with_memory proper touches after) (rate : ℕ) (start : S) (events : Events) (kept kept' : Kept S) (old new : List ℕ) → 0 < kept.spacing
     → IsRight proper touches after rate start events kept

@@ -1,4 +1,4 @@
--- The key events in the order of their steps, one after another.
+-- The key events, ordered by step, one after the other.
 use Rattle.std.proofs.Common.{◌≡◌, ◌≢◌, ℕ, suc, ◌+◌, ◌-◌, ◌*◌, ◌<◌, ◌≤◌, Bool, true, false, cond, eqb, ◌&&◌, List, [], ◌∷◌, ◌++◌, length, take, drop, set, get_or, Some, None, is_some, refl, sym, ap, ◌∙◌, arith, ◌⊎◌, inl, inr, length-drop, get_or-drop, get_or-set_same, get_or-set_other, length-set, length-take}
 use Rattle.std.proofs.lemmas.Bool.{cases_eq, cases_lt, false≢true}
 use Rattle.std.proofs.lemmas.Bool.Decides.{nat_tests}
@@ -33,14 +33,14 @@ by_step s k e test = grind (arith, nat_tests)
 by_key : (s k : ℕ) (e : Event) → is_event e s k ≡ true → k ≡ e.key
 by_key s k e test = grind (arith, nat_tests)
 
--- no event of the key's at the step
+-- the key has no event at the step
 pub change_none : (es : List Event) (s k : ℕ) → ((i : ℕ) (d : Event) → i < length es → s ≡ (get_or es i d).step → k ≢ (get_or es i d).key) → change_at es s k ≡ None
 change_none [] s k other = refl
 change_none (e ∷ es) s k other =
     ap (λ b. cond b (Some e.down) (change_at es s k)) (not_event e s k (other 0 e (omega arith)))
     ∙ change_none es s k (λ i d l. other (suc i) d (omega arith))
 
--- events before which none belongs to the key and the step
+-- none of the first events belongs to the key and the step
 skipped : (xs ys : List Event) (s k : ℕ) → ((i : ℕ) (d : Event) → i < length xs → is_event (get_or xs i d) s k ≡ false) → change_at (xs ++ ys) s k ≡ change_at ys s k
 skipped [] ys s k other = refl
 skipped (e ∷ xs) ys s k other =
@@ -52,7 +52,7 @@ behind [] ys zs s k same = same
 behind (e ∷ xs) ys zs s k same = ap (cond (is_event e s k) (Some e.down)) (behind xs ys zs s k same)
 
 module _ (es : List Event) (order : IsInOrder es) where
-  -- the event at a place
+  -- the event at an index
   pub change_there : (i : ℕ) (d : Event) → i < length es → change_at es (get_or es i d).step (get_or es i d).key ≡ Some (get_or es i d).down
   change_there i d l =
       let e = get_or es i d in
@@ -78,7 +78,7 @@ module _ (es : List Event) (order : IsInOrder es) where
         keys = λ i d l. omega (arith, order.keys (n + i) d (omega (arith, l, fits)), ap (λ (e : Event). e.key) (same i d l));
       }
 
-  -- a place that separates the events at a step
+  -- an index that separates the events at a step
   pub is_first : (step place : ℕ) → place ≤ length es → ((d : Event) → 0 < place → (get_or es (place - 1) d).step < step) → ((d : Event) → place < length es → step ≤ (get_or es place d).step) → IsFirstFrom es step place
   is_first step place within last next =
       record {
@@ -93,7 +93,7 @@ module _ (es : List Event) (order : IsInOrder es) where
         ];
       }
 
-  -- the place found by the ranks
+  -- the index found by comparing ranks
   pub first_by_rank : (step place : ℕ) → place ≤ length es → ((i : ℕ) (d : Event) → i < place → rank (get_or es i d) < step * 16 + 0) → ((i : ℕ) (d : Event) → place ≤ i → i < length es → step * 16 + 0 ≤ rank (get_or es i d)) → IsFirstFrom es step place
   first_by_rank step place within before after =
       record {
@@ -102,7 +102,7 @@ module _ (es : List Event) (order : IsInOrder es) where
         after = λ i d l li. omega (arith, after i d l li, order.keys i d li);
       }
 
-  -- the events up to one, and those from it on
+  -- the events up to an event, and the events from it onwards
   pub below_all : (m wanted : ℕ) → m < length es → ((d : Event) → rank (get_or es m d) < wanted) → (i : ℕ) (d : Event) → i < m + 1 → rank (get_or es i d) < wanted
   below_all m wanted lm low i d l = elim (cases_lt i m) [
     | inl a ↦ omega (arith, order.rising i m d a lm, low d)
@@ -115,7 +115,7 @@ module _ (es : List Event) (order : IsInOrder es) where
     | inr a ↦ (let same : m ≡ i = omega arith in omega (arith, high d, ap (λ j. rank (get_or es j d)) same))
   ]
 
-  -- the place of a key's event at a step
+  -- the index of a key's event at a step
   module _ (step key place : ℕ) (within : place ≤ length es) (before : (i : ℕ) (d : Event) → i < place → rank (get_or es i d) < step * 16 + key) (after : (i : ℕ) (d : Event) → place ≤ i → i < length es → step * 16 + key ≤ rank (get_or es i d)) where
     above : ((d : Event) → place < length es → rank (get_or es place d) ≢ step * 16 + key) → (i : ℕ) (d : Event) → place ≤ i → i < length es → step * 16 + key < rank (get_or es i d)
     above other i d l li = elim (cases_lt place i) [
@@ -152,7 +152,7 @@ module _ (es : List Event) (order : IsInOrder es) where
         let there : Some e.down ≡ None = sym (change_there place d l) ∙ ap (λ s. change_at es s e.key) same_step ∙ ap (change_at es step) same_key ∙ none in
         (cc)))
 
-    -- a part of the events in front of the place
+    -- a part of the events before the index
     front : (s k : ℕ) → s ≡ step → k ≡ key → (i : ℕ) (d : Event) → i < length (take place es) → is_event (get_or (take place es) i d) s k ≡ false
     front s k p q i d l =
         let few : length (take place es) ≡ place = length-take place es ∙ omega arith in
@@ -160,7 +160,7 @@ module _ (es : List Event) (order : IsInOrder es) where
         ap (λ x. is_event x s k) (get_or-take place es i d low)
         ∙ other_rank (get_or es i d) s k (λ h. omega (arith, h, p, q, before i d low))
 
-    -- the events before, an event of the key at the step, and the rest
+    -- the events before the index, an event of the key at the step, and the rest
     with_event : (e : Event) (rest : List Event) (b : Bool) (s k : ℕ) → step ≡ e.step → key ≡ e.key → change_at es s k ≡ change_at (take place es ++ rest) s k ⊎ (is_event e s k ≡ true) → is_event e s k ≡ b → change_at (take place es ++ e ∷ rest) s k ≡ cond b (Some e.down) (change_at es s k)
     with_event e rest true s k p q same test =
         let here : s ≡ e.step = by_step s k e test in
@@ -184,7 +184,7 @@ module _ (es : List Event) (order : IsInOrder es) where
       split : (d : Event) → es ≡ take place es ++ get_or es place d ∷ drop (suc place) es
       split d = sym (take-append-drop place es) ∙ ap (λ xs. take place es ++ xs) (drop-cons es place d inside)
 
-      -- the events without the one at the place, when another is searched for
+      -- the events without the event at the index, when another event is looked up
       without : (s k : ℕ) → (s ≡ step → k ≢ key) → change_at es s k ≡ change_at (take place es ++ drop (suc place) es) s k
       without s k other = elim es as (λ ds. es ≡ ds → change_at es s k ≡ change_at (take place es ++ drop (suc place) es) s k) [
         | [] ↦ λ e. absurd (omega (arith, inside, ap length e))
@@ -222,7 +222,7 @@ module _ (es : List Event) (order : IsInOrder es) where
       pub removed : (s k : ℕ) → change_at (remove es place) s k ≡ cond (eqb s step && eqb k key) None (change_at es s k)
       removed s k = removed_by _ s k refl
 
-    -- the order is kept
+    -- the order is preserved
     pub insert_in_order : (e : Event) → step ≡ e.step → key ≡ e.key → key < 16 → ((i : ℕ) (d : Event) → place ≤ i → i < length es → step * 16 + key < rank (get_or es i d)) → IsInOrder (insert es place e)
     insert_in_order e p q small later =
         record {

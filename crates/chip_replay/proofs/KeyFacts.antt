@@ -1,4 +1,4 @@
--- Facts on masks of keys.
+-- Lemmas about masks of keys.
 use Rattle.std.proofs.Common.{◌≡◌, ℕ, zero, suc, ◌+◌, ◌<◌, ◌≤◌, ◌^◌, Bool, true, false, cond, leb, eqb, ◌&&◌, List, length, set, slice_index_or, inl, inr, get_or-set_same, get_or-set_other, Option, Some, None, is_some, unwrap_or, ◌≢◌, refl, sym, ap, ◌∙◌, arith}
 use Rattle.std.specs.FinMap as map
 use Rattle.std.proofs.lemmas.Bool.Decides.{nat_tests}
@@ -44,7 +44,7 @@ there_if_no_fault events step key h = grind (arith, nat_tests)
 pub key_if_no_fault : (events : Events) (step key : ℕ) → edit_fault events step key ≡ None → key < 16
 key_if_no_fault events step key h = grind (arith, nat_tests)
 
--- if an event may be added, there is none at its step and key
+-- if an event may be added, there is no event at its step and key
 pub absent_if_no_fault : (events : Events) (step key : ℕ) → insert_fault events step key ≡ None → event_at events step key ≡ None
 absent_if_no_fault events step key h = grind (arith, nat_tests)
 
@@ -74,7 +74,7 @@ mask-bits p q (suc n) e k l =
       | inr other ↦ mask-bits p q n top.1 k (omega (arith, other))
     ]
 
--- after an entry of a table is set, its bit is the new one and not the old one
+-- after an entry of a table is set, its bit in the mask is the new bit and not the old one
 pub mask-set : (xs : List Bool) (i : ℕ) (b : Bool) (n : ℕ) → i < length xs → i < n → mask (λ k. slice_index_or (set xs i b) k false) n + cond (slice_index_or xs i false) (2 ^ i) 0 ≡ mask (λ k. slice_index_or xs k false) n + cond b (2 ^ i) 0
 unfolding mask
 mask-set xs i b zero inside l = absurd (omega arith)
@@ -98,7 +98,7 @@ apart q m n =
       | Greater ↦ λ e. refl
     ] refl
 
--- whether two moments are the same
+-- whether two moments are equal
 module _ (step key s k : ℕ) where
   abbrev there : Moment
   there = record { step = step; key = key }
@@ -132,12 +132,12 @@ event_at-remove events step key s k =
     map.get-remove moments_total events (record { step = step; key = key }) (record { step = s; key = k })
     ∙ ap (λ b. cond b None (event_at events s k)) (same_moment step key s k)
 
--- the events in order follow an edit of the events by key
+-- an edit of the events by key and the same edit of the events by step agree
 pub says_set : (events later : Events) (es fs : List Event) (step key : ℕ) (event : Option Bool) → SaysTheSame events es → ((s k : ℕ) → change_at fs s k ≡ cond (eqb s step && eqb k key) event (change_at es s k)) → ((s k : ℕ) → event_at later s k ≡ cond (eqb s step && eqb k key) event (event_at events s k)) → SaysTheSame later fs
 says_set events later es fs step key event says set edited = λ s k l.
     set s k ∙ ap (cond (eqb s step && eqb k key) event) (says s k l) ∙ sym (edited s k)
 
--- events that agree in the steps up to s hold the same keys at s
+-- two lists of events that agree in the steps up to s hold the same keys at s
 is_down-same : (events later : Events) (key s : ℕ) → ((r : ℕ) → r ≤ s → event_at later r key ≡ event_at events r key) → is_down later key s ≡ is_down events key s
 is_down-same events later key zero same = ap (λ o. unwrap_or o false) (same 0 (omega arith))
 is_down-same events later key (suc s) same =

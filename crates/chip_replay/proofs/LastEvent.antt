@@ -18,7 +18,7 @@ is_down-none events key zero none = ap (λ o. unwrap_or o false) (none 0 (omega 
 is_down-none events key (suc step) none =
     ap (λ o. unwrap_or o (is_down events key step)) (none (suc step) (omega arith)) ∙ is_down-none events key step (λ s l. none s (omega arith))
 
--- the event at a step t, and none after it
+-- the event at a step t, if no event follows it up to the step
 pub is_down-last : (events : Events) (key t step : ℕ) (down : Bool) → t ≤ step → event_at events t key ≡ Some down → ((s : ℕ) → t < s → s ≤ step → event_at events s key ≡ None) → is_down events key step ≡ down
 is_down-last events key t zero down l there none =
     ap (λ o. unwrap_or o false) (ap (λ s. event_at events s key) (omega arith) ∙ there)
@@ -102,7 +102,7 @@ is_down-from_none es key step none =
     is_down-none (finmap.from_entries es) key step (λ s l. get_moment es (moment key s)
     ∙ none (moment key s) (ap is_gt (from_then key 0 s) ∙ is_not_after 0 s (omega arith)) (ap is_gt (from_then key s step) ∙ is_not_after s step l))
 
--- no event between two steps: the key stays as it is
+-- if there is no event between two steps, the key stays down or up
 pub is_down-stays : (events : Events) (key from to : ℕ) → from ≤ to → ((s : ℕ) → from < s → s ≤ to → event_at events s key ≡ None) → is_down events key to ≡ is_down events key from
 is_down-stays events key from zero l none = let same : 0 ≡ from = omega arith in ap (is_down events key) same
 is_down-stays events key from (suc to) l none =

@@ -12,7 +12,7 @@ use Rattle.std.proofs.lemmas.Map.Lookups.{CmpEqualImpliesEq, exact_pairs, exact_
 use Rattle.chip_replay.specs.declared.keys.Moment.{Moment}
 use Rattle.chip_replay.specs.Keys.{moment_cmp}
 
--- moments that compare as equal are the same
+-- moments that compare as equal are equal
 pub exact_moments : CmpEqualImpliesEq moment_cmp
 exact_moments a b h = ap (λ (p : ℕ × ℕ). record { key = p.0; step = p.1 }) (exact_pairs nat_cmp nat_cmp exact_unsigned exact_unsigned (a.key, a.step) (b.key, b.step) h)
 
@@ -23,11 +23,11 @@ find_moment : (es : List (Moment × Bool)) (q : Moment) → map.find moment_cmp 
 find_moment [] q = refl
 find_moment (e ∷ es) q = ap (cond (is_at (moment_cmp q) e.0) (Some e.1)) (find_moment es q)
 
--- the value at a moment in the map that the entries make
+-- the value at a moment in the map built from the entries
 pub get_moment : (es : List (Moment × Bool)) (q : Moment) → map.get (map.from_entries {R = moment_cmp} es) q ≡ lookup (is_at (moment_cmp q)) es
 get_moment es q = map.get-from_entries moments_total es q ∙ find_moment es q
 
--- entries that differ at one moment make maps that differ at that moment
+-- lists of entries that differ at one moment lead to maps that differ at that moment
 pub one_set : (es fs : List (Moment × Bool)) (m : Moment) (down : Bool) → ((q : Moment) → lookup (is_at (moment_cmp q)) fs ≡ cond (is_at (moment_cmp m) q) (Some down) (lookup (is_at (moment_cmp q)) es)) → map.from_entries {R = moment_cmp} fs ≡ map.insert (map.from_entries es) m down
 one_set es fs m down h = map.same_map moments_total exact_moments _ _ (λ q.
     get_moment fs q ∙ h q ∙ ap (λ b. cond b (Some down) (lookup (is_at (moment_cmp q)) es)) ((eq_by_cmp_equiv moments_total).symm m q)
@@ -42,7 +42,7 @@ len_by : (b : Bool) (n m : ℕ) → m ≡ n + cond b 0 1 → cond b n (n + 1) �
 len_by true n m e = omega arith
 len_by false n m e = omega arith
 
--- the number of entries is that of the map
+-- the number of entries equals the size of the map
 pub len_set : (es fs : List (Moment × Bool)) (m : Moment) (down : Bool) → map.from_entries {R = moment_cmp} fs ≡ map.insert (map.from_entries es) m down → map.len (map.from_entries {R = moment_cmp} es) ≡ length es → length fs ≡ length es + cond (is_some (lookup (is_at (moment_cmp m)) es)) 0 1 → map.len (map.from_entries {R = moment_cmp} fs) ≡ length fs
 len_set es fs m down is len more =
     ap map.len is ∙ map.len-insert moments_total (map.from_entries es) m down
@@ -59,7 +59,7 @@ len_removed es fs m is len less =
     less_by true n m e = omega arith
     less_by false n m e = omega arith
 
--- an event that is inserted where there was none, and then removed
+-- an event is inserted where there was none, and then removed
 pub set_removed : (events : map.FinMap moment_cmp Bool) (m : Moment) (down : Bool) → map.get events m ≡ None → map.remove (map.insert events m down) m ≡ events
 set_removed events m down absent = map.same_map moments_total exact_moments _ _ (λ q.
     map.get-remove moments_total (map.insert events m down) m q

@@ -1,4 +1,4 @@
--- A list of lists, one of which is edited.
+-- A list of lists in which one list is edited.
 use Rattle.std.proofs.Common.{◌≡◌, ℕ, suc, ◌+◌, ◌-◌, ◌<◌, ◌≤◌, List, [], ◌∷◌, ◌++◌, length, take, drop, set, get_or, refl, sym, ap, ◌∙◌, arith, inl, inr, length-append, length-set, get_or-set_same, get_or-set_other}
 use Rattle.std.specs.List.{flat_map, insert, remove}
 use Rattle.std.proofs.lemmas.Bool.{cases_lt}
@@ -18,7 +18,7 @@ split_set xs i x l =
     ∙ ap (λ y. take i xs ++ y ∷ drop (suc i) (set xs i x)) (get_or-set_same xs i x x l)
     ∙ ap (λ ys. take i xs ++ x ∷ ys) (drop-set-lt (suc i) xs i x (omega arith))
 
--- the element read at a place is there, whatever lies past the end
+-- the element read at an index exists, whichever default is used past the end
 pub read_at : {A : Type 0} (xs : List A) (i : ℕ) (x : A) → i < length xs → x ≡ get_or xs i x → (d : A) → get_or xs i d ≡ x
 read_at xs i x l read d = get_or_default xs i d x l ∙ sym read
 
@@ -42,7 +42,7 @@ module _ {X A : Type 0} (f : X → List A) (xs : List X) where
   pub count_all : (i : ℕ) → length xs ≤ i → length (flat_map f (take i xs)) ≡ length (flat_map f xs)
   count_all i l = ap (λ ys. length (flat_map f ys)) (take_all i xs l)
 
-  -- an element that is counted is in one of the lists
+  -- an index below the total length is an index in one of the lists
   pub list_inside : (i j : ℕ) → length (flat_map f (take i xs)) + j < length (flat_map f xs) → i < length xs
   list_inside i j l = elim (cases_lt i (length xs)) [
     | inl a ↦ a
@@ -78,7 +78,7 @@ module _ {X A : Type 0} (f : X → List A) (xs : List X) where
     pub count_within : length (flat_map f (take i xs)) + length (f x) ≤ length (flat_map f xs)
     count_within = omega (arith, length-flat_map-take f xs i x within, ap (λ y. length (f y)) read)
 
-    -- an element of the list, as one of all elements
+    -- an element of one list, as one of all elements
     pub element : (j : ℕ) (d : A) → j < length (f x) → get_or (flat_map f xs) (length (flat_map f (take i xs)) + j) d ≡ get_or (f x) j d
     element j d l =
         get_or-flat_map f xs i j x d within (omega (arith, l, ap (λ y. length (f y)) read)) ∙ ap (λ y. get_or (f y) j d) (sym read)
@@ -116,7 +116,7 @@ module _ {X A : Type 0} (f : X → List A) (xs : List X) where
       pub flat_remove : (y : X) → j < length (f x) → f y ≡ remove (f x) j → flat_map f (set xs i y) ≡ remove (flat_map f xs) (length (flat_map f (take i xs)) + j)
       flat_remove y l is = parts_set y ∙ ap (λ ys. before ++ (ys ++ behind)) is ∙ part_removed l
 
-      -- the list is removed with its only element
+      -- a list whose only element is removed is removed too
       pub flat_removed : j < length (f x) → length (f x) ≡ 1 → flat_map f (remove xs i) ≡ remove (flat_map f xs) (length (flat_map f (take i xs)) + j)
       flat_removed l one =
           let none : remove (f x) j ≡ [] = nil_from_length (remove (f x) j) (omega (arith, length-remove (f x) j l)) in
@@ -135,7 +135,7 @@ module _ {X A : Type 0} (f : X → List A) (xs : List X) where
         ∙ ap (λ ys. before ++ ys) (sym (append_assoc (f y) (f z) behind) ∙ ap (λ ys. ys ++ behind) both)
         ∙ sym parts
 
-    -- an element is put behind the last list
+    -- an element is appended to the last list
     pub flat_push : (y : X) (a : A) → i + 1 ≡ length xs → f y ≡ f x ++ a ∷ [] → flat_map f (set xs i y) ≡ flat_map f xs ++ a ∷ []
     flat_push y a last is =
         let none : drop (suc i) xs ≡ [] = drop_all (suc i) xs (omega arith) in

@@ -1,9 +1,9 @@
--- A list that is mapped part by part.
+-- Mapping a list part by part.
 use Rattle.std.proofs.Common.{◌≡◌, ◌+◌, ◌-◌, ◌≤◌, ◌++◌, ◌∙◌, ℕ, List, length, take, drop, map, sym, ap, arith}
 use Rattle.std.proofs.lemmas.List.{length-map, length-take-le, take-append-drop, take-take, take_at, drop_at, drop-drop, drop-take, map-append, append_assoc, append-nil, take_all, drop_all}
 
 module _ {X : Type 0} (f : X → X) where
-  -- the first k elements are mapped, and then n more
+  -- the first k elements are mapped, and then n more elements
   pub map_part_more : (xs ys part : List X) (k n : ℕ) → k + n ≤ length xs → ys ≡ map f (take k xs) ++ drop k xs → part ≡ map f (take n (drop k ys))
       → take k ys ++ (part ++ drop n (drop k ys)) ≡ map f (take (k + n) xs) ++ drop (k + n) xs
   map_part_more xs ys part k n fits h is =
@@ -16,7 +16,7 @@ module _ {X : Type 0} (f : X → X) where
       let both : map f (take (k + n) xs) ≡ front ++ map f (take n (drop k xs)) = ap (map f) whole ∙ map-append f (take k xs) (take n (drop k xs)) in
       rw (taken, rest, mapped, drop-drop n k xs, both) (sym (append_assoc front (map f (take n (drop k xs))) (drop (k + n) xs)))
 
-  -- the first k elements are mapped, and then the others
+  -- the first k elements are mapped, and then all others
   pub map_part_last : (xs ys part : List X) (k : ℕ) → k ≤ length xs → length ys ≡ length xs → ys ≡ map f (take k xs) ++ drop k xs → part ≡ map f (take (length ys - k) (drop k ys))
       → take k ys ++ (part ++ drop (length ys - k) (drop k ys)) ≡ map f xs
   map_part_last xs ys part k low size h is =

@@ -1,5 +1,5 @@
--- Changing bytes that no step touches and then running gives the same as running and then changing
--- them.
+-- Patching bytes that no step touches and then running has the same result as running first and then
+-- patching.
 use Rattle.std.proofs.Common.{◌≡◌, ℕ, zero, suc, ◌+◌, ◌-◌, ◌<◌, ◌≤◌, Bool, true, false, List, length, get_or, slice_index, slice_index_or, refl, sym, ap, ◌∙◌, arith, inl, inr}
 use Rattle.std.specs.Prelude.{All, IsFalse, nat_le, nat_lt, ◌==◌, ◌&&◌, if◌then◌else◌}
 use Rattle.std.proofs.lemmas.List.{ext_get_or, get_or_past}
@@ -118,8 +118,8 @@ module _ {S : Type 0} (memory : S → List ℕ) (with_memory : S → List ℕ �
     after-patched s keys tick p u =
         sym (framed s keys tick p u).still_agree.rest ∙ ap (with_memory (after s keys tick)) (same_bytes s keys tick p u)
 
-    -- the state of the new run is the patched state of the old one, as long as no step has touched
-    -- a changed byte
+    -- the state of the new run is the patched state of the old run, if no earlier step has touched a
+    -- changed byte
     pub run-patched : (rate : ℕ) (held : ℕ → ℕ) (start : S) → proper start → (t : ℕ) → ((r : ℕ) → r < t → AllUntouched (run after rate held start r)) → run after rate held (patched memory with_memory old new start) t ≡ patched memory with_memory old new (run after rate held start t)
     run-patched rate held start p zero u = refl
     run-patched rate held start p (suc t) u =

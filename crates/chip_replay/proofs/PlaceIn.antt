@@ -1,4 +1,4 @@
--- A place in a page, among all events of the pages.
+-- A position in a page, as an index among all events of the pages.
 use Rattle.std.proofs.Common.{◌≡◌, ℕ, ◌+◌, ◌-◌, ◌<◌, ◌≤◌, false, List, length, get_or, ap, arith, inl, inr}
 use Rattle.std.specs.Global.{Vec}
 use Rattle.std.proofs.lemmas.Bool.{cases_lt}
@@ -12,8 +12,8 @@ module _ (pages : List (Vec Event)) (order : IsInOrder (all_events pages)) (i : 
   page_in_order =
       part_in_order (all_events pages) order page.items (count_before pages i) (count_within (λ (p : Vec Event). p.items) pages i page within read) (λ j d l. element (λ (p : Vec Event). p.items) pages i page within read j d l)
 
-  -- the place in a page that separates its events at a rank, if the events of earlier pages are
-  -- below that rank and the last event of this page is not
+  -- the index in a page that separates its events at a rank. The events of earlier pages are below that
+  -- rank, and the last event of this page isn't
   module _ (wanted j : ℕ) (earlier : (k : ℕ) (d : Event) → k < count_before pages i → rank (get_or (all_events pages) k d) < wanted) (last : (k : ℕ) (d : Event) → i < length pages → count_before pages (i + 1) ≤ k + 1 → k < length (all_events pages) → wanted ≤ rank (get_or (all_events pages) k d)) (some : 0 < length page.items) (es : List Event) (same : es ≡ page.items) (at_most : j ≤ length es) (below : (k : ℕ) (d : Event) → k < j → rank (get_or es k d) < wanted) (above : (k : ℕ) (d : Event) → j ≤ k → k < length es → wanted ≤ rank (get_or es k d)) where
     at : (k : ℕ) (d : Event) → rank (get_or es k d) ≡ rank (get_or page.items k d)
     at k d = ap (λ xs. rank (get_or xs k d)) same

@@ -1,4 +1,4 @@
--- The places at which two images differ, and the least entry of a table at these places.
+-- The indexes at which two images differ, and the lowest entry of a table at these indexes.
 use Rattle.std.proofs.Common.{◌≡◌, ◌≢◌, ℕ, ◌+◌, ◌<◌, ◌≤◌, true, false, List, take, drop, length, get_or, slice_index, ◌⊎◌, inl, inr, arith, sym, ap, ◌∙◌, min, below_more, get_or-take, get_or-drop}
 use Rattle.std.specs.Prelude.{◌==◌, not}
 use Rattle.std.proofs.lemmas.List.{get_or_past}
@@ -15,7 +15,7 @@ alike old new i same = grind (arith, nat_tests)
 pub not_alike : (old new : List ℕ) (i : ℕ) → slice_index old i ≡ slice_index new i → differs old new i ≡ true → ⊥
 not_alike old new i same d = false≢true (sym (alike old new i same) ∙ d)
 
--- past both images
+-- at an index past both images, they agree
 pub alike_past : (old new : List ℕ) (i : ℕ) → length old ≤ i → length new ≤ i → slice_index old i ≡ slice_index new i
 alike_past old new i lo ln = get_or_past old i 0 lo ∙ sym (get_or_past new i 0 ln)
 
@@ -28,14 +28,14 @@ differs-part old new from n i k l e =
     ap (λ x. not (x == slice_index (take n (drop from new)) k)) (get_or-part old from n i k l e)
     ∙ ap (λ y. not (slice_index old i == y)) (get_or-part new from n i k l e)
 
--- v is the least of `most` and the table's entries at the places below n at which the images
--- differ; it is `most`, or an entry at a place below `room`
+-- v is the minimum of `most` and the table's entries at the indexes below n at which the images
+-- differ; it is `most`, or an entry at an index below `room`
 pub record IsLeast (touch : ℕ → ℕ) (old new : List ℕ) (n room most v : ℕ) : Type 0 where
   pub within : v ≤ most
   pub least : (i : ℕ) → i < n → differs old new i ≡ true → v ≤ touch i
   pub attained : (v ≡ most) ⊎ ((i : ℕ) × (i < room) × (differs old new i ≡ true) × (v ≡ touch i))
 
--- one more place, at which the images may differ
+-- one more index, at which the images may differ
 pub least_more : (touch : ℕ → ℕ) (old new : List ℕ) (i room most v w : ℕ) → i < room → IsLeast touch old new i room most v
     → ((slice_index old i ≢ slice_index new i) × (w ≡ min v (touch i))) ⊎ ((slice_index old i ≡ slice_index new i) × (w ≡ v))
     → IsLeast touch old new (i + 1) room most w

@@ -12,7 +12,7 @@ use Rattle.chip_replay.specs.Run.{run, IsStill}
 use Rattle.chip_replay.specs.inner.Kept.{IsTouched, AreCheckpoints, is_due}
 
 module _ {M : Type 0} (after : M → ℕ → Bool → M) (rate : ℕ) (held : ℕ → ℕ) (start : M) where
-  -- a state that stays under the keys held in some steps is also the state after them
+  -- a state that doesn't change under the keys held in some steps is also the state after them
   pub stays_under : (a n : ℕ) → ((t : ℕ) → a ≤ t → t < a + n → (tick : Bool) → after (run after rate held start a) (held t) tick ≡ run after rate held start a) → run after rate held start (a + n) ≡ run after rate held start a
   stays_under a zero still = let place : a + 0 ≡ a = omega arith in ap (run after rate held start) place
   stays_under a (suc n) still =
@@ -21,12 +21,12 @@ module _ {M : Type 0} (after : M → ℕ → Bool → M) (rate : ℕ) (held : �
       ∙ ap (λ s. after s (held (a + n)) (ticks rate (a + n))) (stays_under a n (λ t l m. still t l (omega (arith, m))))
       ∙ still (a + n) (omega arith) (omega arith) (ticks rate (a + n))
 
-  -- a still state is also that of each later step
+  -- a state that no step changes is also the state of each later step
   pub stays_to : (a t : ℕ) → IsStill after (run after rate held start a) → a ≤ t → run after rate held start t ≡ run after rate held start a
   stays_to a t still l = let place : t ≡ a + (t - a) = omega arith in ap (run after rate held start) place ∙ stays_under a (t - a) (λ s low high. still (held s))
 
--- the first touches below a step are also those below m, if each address that a step in between
--- touches has one
+-- the first touches below a step are also those below m, if each address touched by a step in between
+-- already has a first touch
 pub table_same : {M : Type 0} (touches : M → ℕ → Bool) (state : ℕ → M) (table : List ℕ) (reach m : ℕ) → IsTouched touches state reach table → reach ≤ m
     → ((s a : ℕ) → reach ≤ s → s < m → touches (state s) a ≡ true → slice_index table a < reach) → IsTouched touches state m table
 table_same touches state table reach m known l noted =
@@ -54,7 +54,7 @@ module _ {M : Type 0} (proper : M → Type 0) (after : M → ℕ → Bool → M)
   abbrev state : ℕ → M
   state = run after rate held start
 
-  -- the start state, or the checkpoint at a place counted from 1
+  -- the start state, or the checkpoint with a number, counted from 1
   near : (k : ℕ) (r : M) → k ≤ length cs → (k ≡ 0 → r ≡ state 0) → ((i : ℕ) → k ≡ i + 1 → r ≡ slice_index_or cs i r) → r ≡ state (k * p)
   near zero r l none some = let first : 0 ≡ 0 * p = omega arith in none refl ∙ ap state first
   near (suc i) r l none some =
@@ -71,7 +71,7 @@ module _ {M : Type 0} (proper : M → Type 0) (after : M → ℕ → Bool → M)
         | inr a ↦ (let same : min place (length cs) ≡ place = omega arith in ap (λ n. state (n * p)) same)
       ]
 
-  -- the run is known up to m, and c is the state of each step from `at` on
+  -- the run is known up to m, and c is the state of each step from `at` onwards
   module _ (above : 0 < p) (at m : ℕ) (low : at ≤ (reach / p + 1) * p) (further : reach < m) (within : at ≤ m) (small : m ≤ last_step) (c : M) (here : c ≡ state at)
       (stay : at < m → IsStill after c) where
     is_at : (t : ℕ) → at ≤ t → t ≤ m → c ≡ state t
@@ -83,7 +83,7 @@ module _ {M : Type 0} (proper : M → Type 0) (after : M → ℕ → Bool → M)
     still_at : (t : ℕ) → at ≤ t → t ≤ m → at < m → IsStill after (state t)
     still_at t l u before = subst (IsStill after) (is_at t l u) (stay before)
 
-    -- a checkpoint is due and kept, or none is
+    -- a checkpoint is due and kept, or no checkpoint is due
     more_by : (b : Bool) → is_due p (length cs) at m ≡ b → AreCheckpoints proper after state p m (cond b (cs ++ c ∷ []) cs)
     more_by true test =
         let parts = due_parts p (length cs) at m test in

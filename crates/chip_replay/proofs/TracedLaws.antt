@@ -1,4 +1,4 @@
--- The laws of a machine's trait, and lists that hold the same addresses.
+-- The laws of a machine's trait, and lists that contain the same addresses.
 use Rattle.std.proofs.Common.{◌≡◌, ℕ, Bool, true, false, eqb, List, length, get_or, refl, sym, ◌∙◌, subst}
 use Rattle.std.specs.Prelude.{All, Contains, IsFalse, ◌↔◌}
 use Rattle.std.proofs.lemmas.List.Folds.{list_any_at, Any-from_list_any}
@@ -15,7 +15,7 @@ contained xs at e =
     let (k, x, l, there, same) = Any-from_list_any (λ a. eqb at a) xs e in
     subst (λ y. Contains xs y) (sym (eqb-true at x same)) (k, l, there)
 
--- lists that hold the same addresses
+-- lists that contain the same addresses
 pub is_among-same : (xs ys : List ℕ) (at : ℕ) → (Contains xs at ↔ Contains ys at) → is_among xs at ≡ is_among ys at
 is_among-same xs ys at e =
     elim (is_among xs at) as (λ b. is_among xs at ≡ b → b ≡ is_among ys at) [
@@ -32,7 +32,7 @@ pub record IsMemory {S : Type 0} (memory : S → List ℕ) (with_memory : S → 
   pub same : (s : S) → with_memory s (memory s) ≡ s
   pub replaced : (s : S) (old new : List ℕ) → with_memory (with_memory s old) new ≡ with_memory s new
 
--- the laws of a machine, in the form of its trait
+-- the laws of a machine, in the form that its trait requires
 pub record IsTraced {S : Type 0} (memory : S → List ℕ) (with_memory : S → List ℕ → S) (proper : S → Type 0) (touches : S → List ℕ) (after : S → ℕ → Bool → S) : Type 0 where
   pub part : IsMemory memory with_memory
   pub size : (s : S) → proper s → length (memory s) ≡ memory_size

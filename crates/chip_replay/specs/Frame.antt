@@ -1,9 +1,9 @@
--- The frame law of a machine with a memory: a step neither depends on the bytes that it does not
--- touch nor changes them.
+-- The frame law of a machine with a memory: a step neither depends on the bytes that it doesn't touch
+-- nor changes them.
 -- Source: chosen by this project.
 --     AgreeOff            two states are the same except for the bytes at a set of addresses
 --     IsFramed            the results of the same step from two such states, if the step touches no
---                         address of the set
+--                         address in the set
 use Rattle.std.specs.Prelude.{◌≡◌, ℕ, Bool, List}
 use Rattle.chip_machine.specs.Frame.{SameOff, SameOn}
 

@@ -1,10 +1,10 @@
--- A replay as contracts see it, and what a question changes.
+-- A replay as contracts see it, and what a query changes.
 -- Source: chosen by this project.
 --     History          the start state, the rate, the spacing, the key events, the number of
---                      checkpoints kept, the step up to which the kept run is sound, and the number
---                      of steps made
---     state_at         the state at a step, from the start state and the key events
---     Answered         what a question changes
+--                      checkpoints kept, the step up to which the kept run is valid, and the number
+--                      of steps executed
+--     state_at         the state at a step, computed from the start state and the key events
+--     Answered         what a query changes
 use Rattle.std.specs.Prelude.{◌≡◌, ℕ, ◌+◌, ◌-◌, ◌*◌, ◌/◌, ◌<◌, ◌≤◌, Bool, min, Result, OnOk, refl}
 use Rattle.std.specs.Coded.{Coded, code_by, coded×, coded_ℕ}
 use Rattle.chip_replay.specs.Limits.{last_step}
@@ -19,9 +19,9 @@ pub record History (M : Type 0) : Type 0 where
   pub keys : Events
   -- the number of checkpoints, including that of step 0
   pub kept : ℕ
-  -- the steps below this number were made under the present start state and key events
+  -- the steps below this number were executed under the current start state and key events
   pub reach : ℕ
-  -- the number of steps made; the count stops at 2 ^ 64 - 1
+  -- the number of steps executed; the count stays at 2 ^ 64 - 1 once it reaches that
   pub ran : ℕ
 
 abbrev pub history_code : {M : Type 0} → Coded M → Coded (History M)
@@ -44,9 +44,9 @@ history_code {M} c =
 abbrev pub state_at : {M : Type 0} → (M → ℕ → Bool → M) → History M → ℕ → M
 state_at step_of h t = run step_of h.rate (held h.keys) h.start t
 
--- a question at a step keeps the start state, the rate, the spacing and the events; it makes no
--- more steps than those from the last checkpoint that it may use, and the replay reaches the step
--- if the question is answered
+-- a query at a step doesn't change the start state, the rate, the spacing or the events. It executes
+-- no more steps than those from the last usable checkpoint, and if it succeeds, the kept run reaches
+-- the step
 pub record Answered {M A E : Type 0} (old new : History M) (step : ℕ)
     (result : Result A E) : Type 0 where
   pub same_start : new.start ≡ old.start

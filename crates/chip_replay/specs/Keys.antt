@@ -1,7 +1,7 @@
 -- Key events, and the keys that are held in a step.
--- Source: COSMAC VIP manual for the 16 keys; the events are chosen by this project.
---     moment_cmp      the order of moments: by key, and then by step
---     Events          the key events: down (true) or up for a step and a key
+-- Source: COSMAC VIP manual for the 16 keys; this project chose the events.
+--     moment_cmp      the order of moments: by key and then by step
+--     Events          the key events: down (true) or up, for a step and a key
 --     is_down         whether a key is down in a step
 --     held            the mask of the 16 keys that are held in a step
 --     insert_fault, edit_fault      why an event can't be inserted; why an event can't be replaced
@@ -32,12 +32,12 @@ Events = map.FinMap moment_cmp Bool
 abbrev pub coded_events : Coded Events
 coded_events = map.code coded_moment coded_bool
 
--- the event of a key at a step (down or up), if there is one
+-- the event of a key at a step (down or up), if one exists
 abbrev pub event_at : Events → ℕ → ℕ → Option Bool
 event_at events step key = map.get events (record { key = key; step = step })
 
--- whether a key is down: its event with the greatest step up to this one decides, and without one
--- the key is up
+-- whether a key is down: its last event up to this step decides, and without such an event the key is
+-- up
 abbrev pub is_down : Events → ℕ → ℕ → Bool
 is_down events key zero = unwrap_or (event_at events 0 key) false
 is_down events key (suc step) = unwrap_or (event_at events (suc step) key) (is_down events key step)

@@ -1,6 +1,6 @@
--- The data kept about a run (Kept), and about the key events in the order of their steps (Changes);
--- the machine's frame law in the form of the trait (MachineFrame); and the law that keys known in a
--- step are known in later ones (Cursor).
+-- The data kept about a run (Kept) and about the key events ordered by step (Changes); the machine's
+-- frame law in the form that the trait requires (MachineFrame); and the law that keys known at a step
+-- are known at later steps (Cursor).
 pub mod Changes
 pub mod Cursor
 pub mod Kept

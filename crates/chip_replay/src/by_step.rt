@@ -1,4 +1,4 @@
-//! The key events in the order of their steps.
+//! The key events, ordered by step.
 
 ghost use Rattle.std.specs.Prelude.{◌≡◌, ℕ, ◌+◌, ◌*◌, ◌<◌, ◌≤◌, ◌==◌, ◌&&◌, [], ◌∷◌, ◌++◌, length, None, Some, IsTrue, IsSome, IfOk, OnOk, OnErr, if◌then◌else◌, slice_index_or};
 ghost use Rattle.std.specs.List.{All, insert, remove};
@@ -8,7 +8,7 @@ ghost use Rattle.chip_replay.specs.inner.Changes.{change_at, rank, all_events, c
 use crate::limits::{KEY_COUNT, NEVER};
 use std::alloc::{AllocError, Global};
 
-/// The greatest number of events in a page.
+/// The maximum number of events in a page.
 const PAGE_EVENTS: usize = 128;
 
 /// The number of events that stay in a full page when it is split.
@@ -23,7 +23,7 @@ pub(crate) struct Event {
     pub(crate) down: bool,
 }
 
-/// The place of an event.
+/// The position of an event.
 #[derive(Clone, Copy)]
 pub(crate) struct Place {
     page: usize,
@@ -32,12 +32,12 @@ pub(crate) struct Place {
 }
 
 impl Place {
-    /// The place of the first event.
+    /// The position of the first event.
     pub(crate) const FIRST: Place = Place { page: 0, index: 0 };
 }
 
-/// The events in the order of their steps, and within a step of their keys. They are stored in
-/// pages, so that an edit moves only the events of one page.
+/// The events, ordered by step and then by key. They are stored in pages, so that an edit moves only
+/// the events of one page.
 #[derive(Drop)]
 pub(crate) struct Steps {
     pub(crate) pages: Vec<Vec<Event>>,
@@ -45,7 +45,7 @@ pub(crate) struct Steps {
 }
 
 impl Steps {
-    /// Returns a list without events.
+    /// Returns an empty list of events.
     pub(crate) fn new(alloc: Global) -> Self
         ensures { all_events result.pages.items ≡ [] }
     {
@@ -54,7 +54,7 @@ impl Steps {
         }
     }
 
-    /// The step of the event at a place, or `NEVER` past the last event.
+    /// The step of the event at a position, or `NEVER` past the last event.
     pub(crate) fn step_at(&self, place: Place) -> u32
         requires { IsPlace self.now.pages.items place }
         ensures there { (d : Event)
@@ -73,7 +73,7 @@ impl Steps {
         }
     }
 
-    /// The events of a page from a place on.
+    /// The events of a page, starting at a position.
     pub(crate) fn rest_of_page(&self, place: Place) -> &[Event]
         requires place { IsPlace self.now.pages.items place }
         requires there { index_of self.now.pages.items place
@@ -91,8 +91,8 @@ impl Steps {
         &self.pages[place.page][place.index..]
     }
 
-    /// The place `count` events after another one in its page. If no event of that page is left, it
-    /// is the place of the next page's first event.
+    /// The position `count` events after another position in its page. If no later event is in that page,
+    /// the position of the next page's first event.
     pub(crate) fn later(&self, place: Place, count: usize) -> Place
         requires page { place.page < length self.now.pages.items }
         requires within { (d : Vec Event)
@@ -117,7 +117,7 @@ impl Steps {
         }
     }
 
-    /// The place of the first event that does not come before a given key and step.
+    /// The position of the first event that doesn't come before a given step and key.
     #[cold]
     #[inline(never)]
     fn place(&self, step: u32, key: u8) -> Place
@@ -142,7 +142,7 @@ impl Steps {
         }
     }
 
-    /// The first page with an event whose rank is at least `wanted`.
+    /// The first page that contains an event whose rank is at least `wanted`.
     fn page(&self, wanted: u64) -> usize
         requires { IsInOrder (all_events self.now.pages.items) }
         ensures at_most { result ≤ length self.now.pages.items }
@@ -181,8 +181,8 @@ impl Steps {
         events[events.len() - 1]
     }
 
-    /// The place of the first event whose step is not before `step`. The function tries `guess`
-    /// before it searches.
+    /// The position of the first event whose step is not before `step`. The function tries `guess` before
+    /// it searches.
     pub(crate) fn first_from(&self, step: u32, guess: Place) -> Place
         requires { IsInOrder (all_events self.now.pages.items) }
         ensures place { IsPlace self.now.pages.items result }
@@ -196,7 +196,7 @@ impl Steps {
         }
     }
 
-    /// Whether a place holds the first event whose step is not before `step`.
+    /// Whether a position is that of the first event whose step is not before `step`.
     fn is_first_from(&self, place: Place, step: u32) -> bool
         requires { IsInOrder (all_events self.now.pages.items) }
         ensures place { IsTrue result → IsPlace self.now.pages.items place }
@@ -217,8 +217,8 @@ impl Steps {
         place.page == 0 || self.last_of(place.page - 1).step < step
     }
 
-    /// Adds an event; its key must not have one at its step. Fails if memory runs out, and then the
-    /// events stay.
+    /// Adds an event, whose key must not have an event at its step. If memory runs out, fails and leaves
+    /// the events unchanged.
     pub(crate) fn insert(&mut self, event: Event) -> Result<(), AllocError>
         requires key { event.key < KEY_COUNT }
         requires in_order { IsInOrder (all_events self.old.pages.items) }
@@ -235,8 +235,8 @@ impl Steps {
         Ok(())
     }
 
-    /// Adds an event in front of the one at a place, or after all events. Fails if memory runs out,
-    /// and then the events stay.
+    /// Adds an event before the event at a position, or after all events. If memory runs out, fails and
+    /// leaves the events unchanged.
     fn insert_at(&mut self, place: Place, event: Event) -> Result<(), AllocError>
         requires place { IsPlace self.old.pages.items place }
         requires at_most { index_of self.old.pages.items place
@@ -255,7 +255,7 @@ impl Steps {
         Ok(())
     }
 
-    /// Returns a place in a page with room for an event; a full page is split in two. Fails if
+    /// Returns a position in a page that can take another event; a full page is split in two. Fails if
     /// memory runs out.
     fn with_room(&mut self, place: Place) -> Result<Place, AllocError>
         requires page { place.page < length self.old.pages.items }
@@ -270,7 +270,7 @@ impl Steps {
         }
         self.pages.reserve(1)?;
         let later = self.pages[place.page].split_off(HALF_PAGE)?;
-        // The list of pages has room for one more.
+        // The list of pages has capacity for one more page.
         self.pages.insert(place.page + 1, later)?;
         if place.index <= HALF_PAGE {
             Ok(place)
@@ -282,7 +282,7 @@ impl Steps {
         }
     }
 
-    /// Adds an event after all others. Fails if memory runs out, and then the events stay.
+    /// Adds an event after all others. If memory runs out, fails and leaves the events unchanged.
     fn push(&mut self, event: Event) -> Result<(), AllocError>
         ensures ok { OnOk result (all_events self.new.pages.items
             ≡ all_events self.old.pages.items ++ event ∷ []) }
@@ -328,7 +328,7 @@ impl Steps {
         self.remove_at(place);
     }
 
-    /// Removes the event at a place, and its page if no other event is left there.
+    /// Removes the event at a position, and also its page if that was the page's only event.
     fn remove_at(&mut self, place: Place)
         requires place { IsPlace self.old.pages.items place }
         requires there { index_of self.old.pages.items place

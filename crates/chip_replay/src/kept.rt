@@ -15,7 +15,7 @@ use crate::limits::{IMAGE_START, LAST_STEP, MEMORY_BYTES, NEVER};
 use crate::traced::Traced;
 use std::alloc::{AllocError, Global};
 
-/// The number of first touches that are cut off together.
+/// The number of entries of the table of first touches that are skipped together if none is a touch.
 const PART: usize = 256;
 
 /// The part of a machine's run that a replay keeps.
@@ -23,27 +23,27 @@ const PART: usize = 256;
 pub(crate) struct Kept<M: Traced> {
     /// The number of steps between two checkpoints.
     pub(crate) spacing: u32,
-    /// The states after `spacing` steps, twice as many and so on, up to `reach`.
+    /// The states after each multiple of `spacing` steps, up to `reach`.
     pub(crate) checkpoints: Vec<M>,
-    /// States whose memory later checkpoints reuse. Their contents have no meaning.
+    /// States whose allocations later checkpoints reuse. Their contents have no meaning.
     pub(crate) spare: Vec<M>,
     /// For each address, the first step below `reach` that touched it, or `NEVER`.
     pub(crate) first_touch: Vec<u32>,
     /// The number of steps of the run that are known.
     pub(crate) reach: u32,
-    /// The current state: the one that the last question reached.
+    /// The current state, which the last query reached.
     pub(crate) current: M,
-    /// The step of the current state; `None` if that state is void.
+    /// The step of the current state, or `None` if that state is void.
     pub(crate) current_step: Option<u32>,
-    /// The keys that are held from the step of the current state on.
+    /// The keys that are held from the step of the current state onwards.
     pub(crate) holding: Holding,
-    /// The number of steps made.
+    /// The number of steps executed.
     pub(crate) ran: u64,
 }
 
 impl<M: Traced> Kept<M> {
-    /// Returns a kept run that knows only the start state, of which `start` is a copy. Fails only
-    /// if memory runs out.
+    /// Returns a kept run that knows only the start state; `start` is a copy of that state. Fails only if
+    /// memory runs out.
     pub(crate) fn new(alloc: Global, start: M, spacing: u32) -> Result<Kept<M>, AllocError>
         ensures current { IfOk result (λ kept. (kept.current ≡ start) × (kept.current_step ≡ Some 0)) }
         ensures checkpoints { IfOk result (λ kept. kept.checkpoints.items ≡ []) }
@@ -69,9 +69,8 @@ impl<M: Traced> Kept<M> {
         })
     }
 
-    /// Brings the current state to a step, starting from the nearest kept state, and keeps the
-    /// checkpoints that are due on the way. Fails if memory runs out; the current state may then be
-    /// void.
+    /// Moves the current state to a step, starting from the nearest kept state, and keeps each checkpoint
+    /// that becomes due. Fails if memory runs out; the current state may then be void.
     pub(crate) fn go_to(
         &mut self,
         start: &M,
@@ -106,8 +105,8 @@ impl<M: Traced> Kept<M> {
         Ok(())
     }
 
-    /// Makes `count` steps from step `at`, whose state is the current one; they reach the next
-    /// checkpoint at most. After an error, the run is known as far as before, and the current state
+    /// Executes `count` steps starting at step `at`, whose state is the current state. The steps don't
+    /// pass the next checkpoint. After an error, the run is known as far as before, and the current state
     /// is void.
     fn go_on(&mut self, keys: &Keys, rate: u32, at: u32, count: u32) -> Result<(), AllocError>
         requires rate { 0 < rate }
@@ -138,8 +137,8 @@ impl<M: Traced> Kept<M> {
         self.extend(last, last)
     }
 
-    /// Makes `count` steps from step `at`, whose state is the current one. Returns the number of
-    /// steps made, which is 0 if the steps would change nothing.
+    /// Executes `count` steps starting at step `at`, whose state is the current state. Returns the number
+    /// of steps executed, which is 0 if the steps would change nothing.
     fn make_steps(&mut self, keys: &Keys, rate: u32, at: u32, count: u32) -> u32
         requires rate { 0 < rate }
         requires in_range { at + count ≤ LAST_STEP }
@@ -173,8 +172,8 @@ impl<M: Traced> Kept<M> {
         count
     }
 
-    /// Returns what is known of the keys after `count` steps from step `at`, whose state is the
-    /// current one, if these steps change nothing and touch no address for the first time.
+    /// Returns the keys known after `count` steps starting at step `at`, whose state is the current state.
+    /// Returns `None` if these steps might change something or touch an address for the first time.
     fn idle_until(&self, keys: &Keys, at: u32, count: u32) -> Option<Holding>
         requires in_range { at + count ≤ LAST_STEP }
         requires holding { KnowsKeys keys.now at self.now.holding }
@@ -185,7 +184,7 @@ impl<M: Traced> Kept<M> {
             self.now.current self.now.first_touch.items }
         ensures holding { IfSome result (KnowsKeys keys.now (at + count)) }
     {
-        // Making a single step is as fast as this test.
+        // Executing a single step is as fast as this test.
         if count < 2 {
             return None;
         }
@@ -203,10 +202,9 @@ impl<M: Traced> Kept<M> {
         Some(holding)
     }
 
-    /// Extends the known run to step `last`. The current state is that of each step from `at` to
-    /// `last`, and the first touches are noted. A checkpoint is kept if the next one is due within
-    /// these steps. After an error, the run is known as far as before, and the current state is
-    /// void.
+    /// Extends the known run to step `last`. The current state must be the state of each step from `at` to
+    /// `last`, and the first touches must be recorded. Keeps a checkpoint if the next one is due within
+    /// these steps. After an error, the run is known as far as before, and the current state is void.
     #[inline(always)]
     fn extend(&mut self, at: u32, last: u32) -> Result<(), AllocError>
         requires spaced { 0 < self.old.spacing }
@@ -239,9 +237,8 @@ impl<M: Traced> Kept<M> {
         Ok(())
     }
 
-    /// Whether a checkpoint has to be kept of a state that is that of each step from `at` to
-    /// `last`: true if the next one is due within these steps and no earlier checkpoint is the
-    /// same.
+    /// Whether to keep a checkpoint of a state that is the state of each step from `at` to `last`. True if
+    /// the next checkpoint is due within these steps and the one before it belongs to a step before `at`.
     fn is_due(&self, at: u32, last: u32) -> bool
         requires few { length self.now.checkpoints.items ≤ LAST_STEP }
         ensures { result ≡ is_due self.now.spacing (length self.now.checkpoints.items) at last }
@@ -275,9 +272,9 @@ impl<M: Traced> Kept<M> {
         Ok(())
     }
 
-    /// Makes the current state one from which the run can go on to a step, and returns a step that
-    /// it belongs to. The current state stays if no checkpoint up to that step is nearer, or if it
-    /// is the state of every later step. An error changes nothing.
+    /// Makes the current state one from which the run can continue to a step, and returns a step that the
+    /// current state belongs to. The current state stays if no checkpoint up to that step is nearer, or if
+    /// it is the state of every later step. An error changes nothing.
     fn set_out(&mut self, start: &M, keys: &Keys, step: u32) -> Result<u32, AllocError>
         requires spaced { 0 < self.old.spacing }
         ensures within { IfOk result (λ from. from ≤ step) }
@@ -300,8 +297,8 @@ impl<M: Traced> Kept<M> {
     {
         let known = self.reach.min(step);
         match self.current_step {
-            // The run is known no further than the current state, and a division would take longer
-            // than a step.
+            // The run is known no further than the current state, and a division would take longer than a
+            // step.
             Some(current_step) if known <= current_step && current_step <= step => return Ok(
                 current_step,
             ),
@@ -326,7 +323,7 @@ impl<M: Traced> Kept<M> {
         }
     }
 
-    /// Drops everything kept of the steps from `from` on.
+    /// Discards everything that is kept of the steps from `from` onwards.
     pub(crate) fn forget(&mut self, from: u32)
         requires { 0 < self.old.spacing }
         ensures right { (rate : ℕ) (start : M) (events later : Events)
@@ -349,7 +346,7 @@ impl<M: Traced> Kept<M> {
         self.holding.until = self.holding.until.min(from);
     }
 
-    /// Drops everything kept of the steps from `reach` on; the run must be known up to there.
+    /// Discards everything that is kept of the steps from `reach` onwards. The run must be known up to `reach`.
     fn cut_off(&mut self, reach: u32)
         requires { 0 < self.old.spacing }
         ensures right { (rate : ℕ) (start : M) (events : Events)
@@ -371,8 +368,8 @@ impl<M: Traced> Kept<M> {
         self.reach = reach;
     }
 
-    /// Removes the first touches of the steps from `reach` on. There are none if the current state,
-    /// which belongs to an earlier step, stays as it is.
+    /// Removes the first touches of the steps from `reach` onwards. There are none if the current state,
+    /// whose step is at most `reach`, never changes and touches nothing.
     fn cut_touches(&mut self, reach: u32)
         requires within { IfSome self.old.current_step (λ t. t ≤ reach) }
         ensures table { (rate : ℕ) (start : M) (events : Events) (known : ℕ)
@@ -391,8 +388,8 @@ impl<M: Traced> Kept<M> {
         cut(&mut self.first_touch, reach);
     }
 
-    /// Replaces the bytes of the old image by those of the new one in each kept state. The images
-    /// agree outside the places from `first` up to `end`.
+    /// Replaces the bytes of the old image with those of the new image in each kept state. The images
+    /// agree outside the indexes from `first` to before `end`.
     pub(crate) fn patch(&mut self, first: usize, end: usize, old: &[u8], new: &[u8])
         requires old_fits { length old.now ≤ image_room }
         requires new_fits { length new.now ≤ image_room }
@@ -409,15 +406,15 @@ impl<M: Traced> Kept<M> {
     }
 }
 
-/// The byte of an image at a place, or 0 past its end.
+/// The byte of an image at an index, or 0 past its end.
 fn byte_at(image: &[u8], place: usize) -> u8
     ensures { result ≡ slice_index image.now place }
 {
     if place < image.len() { image[place] } else { 0 }
 }
 
-/// The first step below `reach` that touches a byte at which the images differ, or `reach` if there
-/// is none. The images agree outside the places from `first` up to `end`.
+/// The first step below `reach` that touches a byte at which the images differ, or `reach` if there is
+/// none. The images agree outside the indexes from `first` to before `end`.
 pub(crate) fn least_touch(
     first_touch: &[u32],
     reach: u32,
@@ -453,7 +450,7 @@ pub(crate) fn least_touch(
     least
 }
 
-/// The least of `most` and the steps at the places where the bytes differ.
+/// The minimum of `most` and the steps at the indexes where the bytes differ.
 fn least_at_changes(steps: &[u32], most: u32, old: &[u8], new: &[u8]) -> u32
     requires old_alike { length old.now ≡ length steps.now }
     requires new_alike { length new.now ≡ length steps.now }
@@ -472,8 +469,8 @@ fn least_at_changes(steps: &[u32], most: u32, old: &[u8], new: &[u8]) -> u32
     least
 }
 
-/// Replaces the bytes of the old image by those of the new one. The images agree outside the places
-/// from `first` up to `end`.
+/// Replaces the bytes of the old image with those of the new image. The images agree outside the
+/// indexes from `first` to before `end`.
 pub(crate) fn patch<M: Traced>(state: &mut M, first: usize, end: usize, old: &[u8], new: &[u8])
     requires old_fits { length old.now ≤ image_room }
     requires new_fits { length new.now ≤ image_room }
@@ -492,7 +489,7 @@ pub(crate) fn patch<M: Traced>(state: &mut M, first: usize, end: usize, old: &[u
     }
 }
 
-/// Replaces the bytes of the old image by those of the new one in each state.
+/// Replaces the bytes of the old image with those of the new image in each state.
 fn patch_all<M: Traced>(states: &mut [M], first: usize, end: usize, old: &[u8], new: &[u8])
     requires old_fits { length old.now ≤ image_room }
     requires new_fits { length new.now ≤ image_room }
@@ -504,7 +501,7 @@ fn patch_all<M: Traced>(states: &mut [M], first: usize, end: usize, old: &[u8], 
     }
 }
 
-/// Removes the first touches of the steps from `reach` on. A part of the table that no step touched
+/// Removes the first touches of the steps from `reach` onwards. A part of the table that no step touched
 /// is only read.
 fn cut(first_touch: &mut [u32], reach: u32)
     ensures { first_touch.new
@@ -518,7 +515,7 @@ fn cut(first_touch: &mut [u32], reach: u32)
     cut_each(&mut first_touch[parts * PART..], reach);
 }
 
-/// Removes the touches of the steps from `reach` on from a part of the table.
+/// Removes the touches of the steps from `reach` onwards from a part of the table.
 fn cut_part(part: &mut [u32], reach: u32)
     ensures { part.new ≡ map (λ first. if nat_lt first reach then first else NEVER) part.old }
 {
@@ -527,7 +524,7 @@ fn cut_part(part: &mut [u32], reach: u32)
     }
 }
 
-/// The least of the steps, or `NEVER` if there are none.
+/// The minimum of the steps, or `NEVER` if there are no steps.
 fn least_of(steps: &[u32]) -> u32
     ensures { (i : ℕ) → i < length steps.now → result ≤ slice_index steps.now i }
 {
@@ -538,7 +535,7 @@ fn least_of(steps: &[u32]) -> u32
     least
 }
 
-/// Removes the touches of the steps from `reach` on, address by address.
+/// Removes the touches of the steps from `reach` onwards, address by address.
 fn cut_each(first_touch: &mut [u32], reach: u32)
     ensures { first_touch.new
         ≡ map (λ first. if nat_lt first reach then first else NEVER) first_touch.old }
@@ -548,7 +545,7 @@ fn cut_each(first_touch: &mut [u32], reach: u32)
     }
 }
 
-/// The step, if there is one and it is not later than `reach`.
+/// The step if there is one and it isn't later than `reach`; otherwise `None`.
 fn if_within(step: Option<u32>, reach: u32) -> Option<u32>
     ensures { IfSome result (λ t. (t ≤ reach) × (step ≡ Some t)) }
 {
@@ -558,14 +555,14 @@ fn if_within(step: Option<u32>, reach: u32) -> Option<u32>
     }
 }
 
-/// The step if it is before `reach`, otherwise no step.
+/// The step if it is before `reach`; otherwise `NEVER`.
 fn if_before(step: u32, reach: u32) -> u32
     ensures { result ≡ (if nat_lt step reach then step else NEVER) }
 {
     if step < reach { step } else { NEVER }
 }
 
-/// Removes the states from a place on. Their memory is kept for reuse if there is room for them.
+/// Removes the states from an index onwards. Keeps them in `spare` for reuse as far as they fit.
 fn set_apart<M: Traced>(states: &mut Vec<M>, spare: &mut Vec<M>, place: usize)
     ensures { states.new.items ≡ take place states.old.items }
 {
@@ -579,8 +576,8 @@ fn set_apart<M: Traced>(states: &mut Vec<M>, spare: &mut Vec<M>, place: usize)
     }
 }
 
-/// The start state for place 0, otherwise the checkpoint at a place, counted from 1. Past the last
-/// checkpoint, the last one.
+/// The start state for 0, otherwise the checkpoint with the number `place`, counted from 1. For a
+/// number past the last checkpoint, the last checkpoint.
 fn nearest<'a, M: Traced>(start: &'a M, checkpoints: &'a [M], place: usize) -> &'a M
     ensures start { min place (length checkpoints.now) ≡ 0 → result.now ≡ start.now }
     ensures checkpoint { (i : ℕ) → min place (length checkpoints.now) ≡ i + 1

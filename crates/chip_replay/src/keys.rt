@@ -21,22 +21,22 @@ pub struct Moment {
     pub step: u32,
 }
 
-/// The reason why an edit of the events was refused.
+/// The reason why an edit of the key events was refused.
 #[derive(Clone, Copy, Debug, PartialEq, Eq, Error)]
 pub enum KeyFault {
-    /// N5: the step is above the last one.
+    /// N5: the step is above `LAST_STEP`.
     #[error("the step is above {LAST_STEP}")]
     StepTooLarge,
     /// N6: the key is above 15.
     #[error("the key is above 15")]
     NoSuchKey,
-    /// N7: the key has an event at this step already.
+    /// N7: the key already has an event at this step.
     #[error("the key has an event at this step")]
     EventThere,
     /// N8: the key has no event at this step.
     #[error("the key has no event at this step")]
     NoEvent,
-    /// N9: the greatest number of events has been reached.
+    /// N9: the number of events has reached its maximum.
     #[error("there are {MOST_EVENTS} events")]
     TooManyEvents,
     /// N10: memory ran out.
@@ -53,7 +53,7 @@ pub(crate) struct Holding {
     pub(crate) down: [bool; KEY_COUNT],
     /// The first step whose events are not covered.
     pub(crate) until: u32,
-    /// The place of that step's events in the order of events, unless an event was added or removed
+    /// The position of that step's events in the order of events, unless an event was added or removed
     /// since.
     pub(crate) place: Place,
 }
@@ -68,7 +68,7 @@ impl Holding {
     };
 }
 
-/// The keys in the steps of a run, given by the key events.
+/// The keys in the steps of a run, as the key events determine them.
 #[derive(Drop)]
 pub(crate) struct Cursor<'a> {
     pub(crate) keys: &'a Keys,
@@ -93,12 +93,12 @@ impl HeldKeys for Cursor<'_> {
     }
 }
 
-/// The key events. At each of them, a key goes down or up, and stays so until its next event.
+/// The key events. At each event, a key goes down or up, and it stays so until its next event.
 #[derive(Drop)]
 pub struct Keys {
-    /// The events ordered by key, to find the last event of a key up to a step.
+    /// The events ordered by key, used to find the last event of a key up to a step.
     events: BTreeMap<Moment, bool>,
-    /// The events ordered by step, to find the next events of any key.
+    /// The events ordered by step, used to find the next events of any key.
     steps: Steps,
 }
 
@@ -125,7 +125,7 @@ impl Keys {
     ghost use Rattle.chip_replay.specs.Keys.{event_at, is_down, held, insert_fault, edit_fault};
     ghost use Rattle.chip_replay.specs.inner.Changes.{KnowsKeys, HoldsKeys};
 
-    /// Returns a list without events, under which every key is up.
+    /// Returns an empty list of events, so that every key is up.
     pub fn new(alloc: Global) -> Self
         ensures { result ≡ map.empty }
     {
@@ -135,8 +135,8 @@ impl Keys {
         }
     }
 
-    /// The mask of the keys that are down in a step, key k at bit k. The last event of a key up to
-    /// that step decides; a key without one is up.
+    /// The mask of the keys that are down in a step, key k at bit k. The last event of a key up to that
+    /// step decides; a key without such an event is up.
     pub fn held(&self, step: u32) -> u16
         ensures { result ≡ held self.now step }
     {
@@ -156,7 +156,7 @@ impl Keys {
         down
     }
 
-    /// Whether a key is down in a step, as its last event up to that step says.
+    /// Whether a key is down in a step, according to its last event up to that step.
     fn is_down(&self, key: u32, step: u32) -> bool
         ensures { result ≡ is_down self.now key step }
     {
@@ -187,7 +187,7 @@ impl Keys {
         }
     }
 
-    /// Updates the keys known when a step begins to the keys that are down in it.
+    /// Updates the keys known at the start of a step to the keys that are down in that step.
     #[inline(always)]
     pub(crate) fn hold(&self, known: &mut Holding, step: u32)
         requires in_range { step < NEVER }
@@ -199,8 +199,8 @@ impl Keys {
         }
     }
 
-    /// Updates the keys that were down before the events of this step, or of an earlier one, to the
-    /// keys that are down in it and up to the next event.
+    /// Updates the known keys to those that are down in a step and until the next event. Before, they must be
+    /// those that were down before the events of that step or of an earlier step.
     #[inline(never)]
     fn pass_events(&self, known: &mut Holding, step: u32)
         requires in_range { step < NEVER }
@@ -222,7 +222,7 @@ impl Keys {
     }
 
     /// Adds an event: the key goes down, or up, at the step. Returns the first error that applies:
-    /// the step is above the last one, the key is above 15, there is an event already, there are
+    /// the step is above `LAST_STEP`, the key is above 15, there is already such an event, there are
     /// `MOST_EVENTS` events, or memory ran out. An error changes nothing.
     pub fn insert(&mut self, step: u32, key: u32, down: bool) -> Result<(), KeyFault>
         ensures fault { MatchOption (insert_fault self.old step key)
@@ -253,9 +253,9 @@ impl Keys {
         }
     }
 
-    /// Changes an event to down or up, and takes no memory. Returns the first error that applies:
-    /// the step is above the last one, the key is above 15, or there is no event. An error changes
-    /// nothing.
+    /// Changes an event to down or up. Returns the first error that applies: the step is above
+    /// `LAST_STEP`, the key is above 15, or there is no such event. An error changes nothing. The change
+    /// allocates no memory.
     pub fn replace(&mut self, step: u32, key: u32, down: bool) -> Result<(), KeyFault>
         ensures fault { MatchOption (edit_fault self.old step key) (result ≡ Ok tt)
             (λ fault. result ≡ Err fault) }
@@ -279,7 +279,7 @@ impl Keys {
         Ok(())
     }
 
-    /// Deletes an event, and takes no memory. The errors are those of `replace`.
+    /// Deletes an event. Allocates no memory. The errors are those of `replace`.
     pub fn delete(&mut self, step: u32, key: u32) -> Result<(), KeyFault>
         ensures fault { MatchOption (edit_fault self.old step key) (result ≡ Ok tt)
             (λ fault. result ≡ Err fault) }
@@ -295,7 +295,7 @@ impl Keys {
         Ok(())
     }
 
-    /// Returns why an event can't be added, if there is a reason.
+    /// Returns the reason why an event can't be added, if there is one.
     fn insert_fault(&self, step: u32, key: u32) -> Option<KeyFault>
         ensures { result ≡ insert_fault self.now step key }
     {
@@ -314,7 +314,7 @@ impl Keys {
         None
     }
 
-    /// Returns why an event can't be changed or deleted, if there is a reason.
+    /// Returns the reason why an event can't be changed or deleted, if there is one.
     fn edit_fault(&self, step: u32, key: u32) -> Option<KeyFault>
         ensures { result ≡ edit_fault self.now step key }
     {
@@ -332,8 +332,8 @@ impl Keys {
     }
 }
 
-/// Applies the events up to a step, which are the first of the list, to the keys. Returns the
-/// number of these events.
+/// Applies the events of a list up to a step, which come first in that list, to the keys. Returns the
+/// number of applied events.
 #[inline(always)]
 fn pass(events: &[Event], step: u32, keys: &mut u16, down: &mut [bool; KEY_COUNT]) -> usize
     requires keys { (i : ℕ) (d : Event) → i < length events.now
@@ -359,7 +359,7 @@ fn pass(events: &[Event], step: u32, keys: &mut u16, down: &mut [bool; KEY_COUNT
     passed
 }
 
-/// The mask of the keys after one of them went down or up.
+/// The mask of the keys after one key went down or up.
 #[inline(always)]
 fn with_key(keys: u16, down: &[bool; KEY_COUNT], key: usize, is_down: bool) -> u16
     requires key { key < KEY_COUNT }

@@ -9,9 +9,9 @@ ghost use Rattle.chip_machine.specs.State.{differs};
 
 use crate::traced::Traced;
 
-/// Take a state of a run up to which no step touched a byte at which two images differ, and patch
-/// it at these bytes. The result is the state of the run from the patched start, in which the new
-/// image, followed by zeros, replaces the old one.
+/// Takes a state of a run up to which no step touched a byte at which two images differ, and patches
+/// that state at these bytes. The result is the state of the run from the patched start, in which the
+/// new image, followed by zeros, replaces the old image.
 pub fn patched_checkpoint<M: Traced>()
     ensures start { (start : M) (old new : List ℕ)
         → length old ≤ image_room

@@ -1,4 +1,4 @@
-//! Makes the machine one that a replay can run.
+//! Implements `Traced` for the machine, so that a replay can run it.
 
 ghost use Rattle.std.specs.Prelude.{◌+◌, ◌<◌, IsTrue, slice_index};
 
@@ -80,7 +80,7 @@ impl Traced for Machine {
     ghost frame_law = { machine_framed };
 }
 
-/// True only if both bytes of the word at an address were touched before a step.
+/// True only if steps before `at` touched both bytes of the word at an address.
 fn is_noted(first_touch: &[u32], address: u16, at: u32) -> bool
     ensures { IsTrue result → (slice_index first_touch.now address < at)
         × (slice_index first_touch.now (address + 1) < at) }

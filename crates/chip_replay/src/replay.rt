@@ -11,10 +11,10 @@ use std::marker::Model;
 use std::ops::Range;
 use thiserror::Error;
 
-/// The reason why a question has no answer.
+/// The reason why a query failed.
 #[derive(Clone, Copy, Debug, PartialEq, Eq, Error)]
 pub enum AtError {
-    /// Q2: the step is above the last one.
+    /// Q2: the step is above `LAST_STEP`.
     #[error("the step is above {LAST_STEP}")]
     StepTooLarge,
     /// Q4: memory ran out.
@@ -78,8 +78,8 @@ impl<M: Traced> Replay<M> {
     ghost use Rattle.chip_replay.specs.Keys.{held, insert_fault, edit_fault};
     ghost use Rattle.chip_replay.specs.contracts.replay.Replay.{the_row};
 
-    /// Returns the run from a start state, without key events. The timers tick at each step whose
-    /// number plus 1 is a multiple of `rate`, which is at least 1. A checkpoint is kept after every
+    /// Returns the run from a start state, without key events. The timers tick at each step whose number
+    /// plus 1 is a multiple of `rate`, which is at least 1. The replay keeps a checkpoint after every
     /// `spacing` steps. Fails only if memory runs out.
     pub fn new(alloc: Global, start: M, rate: u32, spacing: u32) -> Result<Replay<M>, AllocError>
         requires rate { 0 < rate }
@@ -103,7 +103,7 @@ impl<M: Traced> Replay<M> {
         })
     }
 
-    /// The number of checkpoints held, including that of step 0.
+    /// The number of checkpoints kept, including that of step 0.
     pub fn kept(&self) -> usize
         ensures value { result ≡ self.now.kept }
         ensures few { result ≤ LAST_STEP / self.now.spacing + 1 }
@@ -111,7 +111,7 @@ impl<M: Traced> Replay<M> {
         self.kept.checkpoints.len() + 1
     }
 
-    /// The step up to which the kept run is sound, 0 to `LAST_STEP`.
+    /// The step up to which the kept run is valid, 0 to `LAST_STEP`.
     pub fn reach(&self) -> u32
         ensures value { result ≡ self.now.reach }
         ensures in_range { result ≤ LAST_STEP }
@@ -119,7 +119,7 @@ impl<M: Traced> Replay<M> {
         self.kept.reach
     }
 
-    /// The number of steps made so far. The count stops at the greatest `u64`.
+    /// The number of steps executed so far. The count stays at `u64::MAX` once it reaches that.
     pub fn ran(&self) -> u64
         ensures { result ≡ self.now.ran }
     {
@@ -133,10 +133,10 @@ impl<M: Traced> Replay<M> {
         &self.keys
     }
 
-    /// The state at a step, which is the state after steps 0 to `step - 1` under the present key
-    /// events. The replay makes it from the nearest checkpoint, or from the current state if that
-    /// is nearer. Returns the first error that applies: the step is above the last one, or memory
-    /// ran out. After an error, later answers are as if the question had not been asked.
+    /// The state at a step, which is the state after steps 0 to `step - 1` under the current key events.
+    /// The replay computes it from the nearest checkpoint, or from the current state if that is nearer.
+    /// Returns the first error that applies: the step is above `LAST_STEP`, or memory ran out. After an
+    /// error, later answers are as if the failed query had not been made.
     pub fn at(&mut self, step: u32) -> Result<&M, AtError>
         ensures past_the_last { (result ≡ Err AtError.StepTooLarge) ↔ (LAST_STEP < step) }
         ensures state { IfOk result (λ state. state.now ≡ state_at M.step_of self.old step) }
@@ -152,7 +152,7 @@ impl<M: Traced> Replay<M> {
         }
     }
 
-    /// Adds a key event, like `Keys::insert`. The kept part of the run up to its step stays. An
+    /// Adds a key event, like `Keys::insert`. The kept part of the run up to the event's step stays. An
     /// error changes nothing.
     pub fn insert_key(&mut self, step: u32, key: u32, down: bool) -> Result<(), KeyFault>
         ensures fault { MatchOption (insert_fault self.old.keys step key)
@@ -170,7 +170,7 @@ impl<M: Traced> Replay<M> {
         Ok(())
     }
 
-    /// Changes a key event to down or up, like `Keys::replace`. The kept part of the run up to its
+    /// Changes a key event to down or up, like `Keys::replace`. The kept part of the run up to the event's
     /// step stays. An error changes nothing.
     pub fn replace_key(&mut self, step: u32, key: u32, down: bool) -> Result<(), KeyFault>
         ensures fault { MatchOption (edit_fault self.old.keys step key)
@@ -188,7 +188,7 @@ impl<M: Traced> Replay<M> {
         Ok(())
     }
 
-    /// Deletes a key event, like `Keys::delete`. The kept part of the run up to its step stays. An
+    /// Deletes a key event, like `Keys::delete`. The kept part of the run up to the event's step stays. An
     /// error changes nothing.
     pub fn delete_key(&mut self, step: u32, key: u32) -> Result<(), KeyFault>
         ensures fault { MatchOption (edit_fault self.old.keys step key)
@@ -206,9 +206,9 @@ impl<M: Traced> Replay<M> {
         Ok(())
     }
 
-    /// Makes the machine start with another image in its memory: the bytes of `new`, followed by
-    /// zeros, replace those of `old`. The kept part of the run up to the first step that touches a
-    /// byte at which they differ stays. Takes no memory.
+    /// Makes the machine start with another image in its memory: the bytes of `new`, followed by zeros,
+    /// replace those of `old`. The kept part of the run stays up to the first step that touches a byte at
+    /// which the images differ. Allocates no memory.
     pub fn image_changed(&mut self, old: &[u8], new: &[u8])
         requires old_fits { length old.now ≤ image_room }
         requires new_fits { length new.now ≤ image_room }
@@ -224,8 +224,8 @@ impl<M: Traced> Replay<M> {
         self.image_changed_within(0..IMAGE_BYTES, old, new);
     }
 
-    /// Changes the image like `image_changed`, given the places outside which the images agree.
-    /// Only the bytes at those places are read.
+    /// Changes the image like `image_changed`, given the range of indexes outside which the images agree.
+    /// Reads only the bytes in that range.
     pub fn image_changed_within(&mut self, changed: Range<usize>, old: &[u8], new: &[u8])
         requires old_fits { length old.now ≤ image_room }
         requires new_fits { length new.now ≤ image_room }

@@ -24,22 +24,22 @@ pub trait Traced: Drop + Sized {
     /// The bytes of the memory.
     ghost memory: { Self → List ℕ };
 
-    /// The state with other bytes in its memory, and nothing else changed.
+    /// The state with other bytes in its memory and nothing else changed.
     ghost with_memory: { Self → List ℕ → Self };
 
-    /// A property that holds for each state of a machine.
+    /// A property that each state of a machine has.
     ghost is_proper: { Self → Type 0 };
 
-    /// Makes one step with these keys down (key k at bit k); the timers tick if `tick` is true.
-    /// `touch` then holds the addresses that the step read or wrote, in any order.
+    /// Executes one step with these keys down (key k at bit k); the timers tick if `tick` is true.
+    /// Afterwards `touch` contains the addresses that the step read or wrote, in any order.
     fn step(&mut self, keys: u16, tick: bool, touch: &mut Touch)
         ensures state { self.new ≡ step_of self.old keys tick }
         ensures touched { (at : ℕ) → Contains touch.new at ↔ Contains (touches self.old) at }
         ensures proper { is_proper self.new };
 
-    /// Makes the next `count` steps. The first has the number `from`; step t uses the keys held at
-    /// t, and the timers tick if t + 1 is a multiple of the rate. In `first_touch`, each address
-    /// keeps the least number of a step that touched it.
+    /// Executes the next `count` steps. The first has the number `from`. Step t uses the keys held at t,
+    /// and the timers tick if t + 1 is a multiple of the rate. In `first_touch`, each address keeps the
+    /// number of the first step that touched it.
     fn steps<K: HeldKeys>(
         &mut self,
         keys: &mut K,
@@ -68,7 +68,7 @@ pub trait Traced: Drop + Sized {
         }
     }
 
-    /// True only if each step leaves the state as it is and touches nothing.
+    /// True only if each step leaves the state unchanged and touches nothing.
     fn is_still(&self) -> bool
         ensures still { IsTrue result → IsStill step_of self.now }
         ensures untouched { IsTrue result → touches self.now ≡ [] }
@@ -76,9 +76,8 @@ pub trait Traced: Drop + Sized {
         false
     }
 
-    /// True only if each step with these keys down, or with any keys for `None`, leaves the state
-    /// as it is and touches only addresses that a step before `at` has touched, as the table of
-    /// first touches says.
+    /// True only if each step with these keys down, or with any keys for `None`, leaves the state unchanged.
+    /// Such a step must also touch only addresses whose first touch in the table is before `at`.
     fn stays(&self, keys: Option<u16>, first_touch: &[u32], at: u32) -> bool
         ensures still { IsTrue result → (down : ℕ) (tick : Bool) → IfSome keys (λ k. down ≡ k)
             → step_of self.now down tick ≡ self.now }
@@ -94,8 +93,8 @@ pub trait Traced: Drop + Sized {
         ensures byte { self.new ≡ with_memory self.old (slice_set (memory self.old) at byte) }
         ensures proper { is_proper self.new };
 
-    /// Replaces the bytes of `old`, from an address on, by those of `new` wherever the two differ.
-    /// All other bytes stay.
+    /// Writes the bytes of `new`, starting at an address, wherever they differ from those of `old`. All
+    /// other bytes stay.
     fn exchange(&mut self, at: u16, old: &[u8], new: &[u8])
         requires alike { length old.now ≡ length new.now }
         requires in_memory { at + length new.now ≤ memory_size }
@@ -108,7 +107,7 @@ pub trait Traced: Drop + Sized {
         ensures same { IfOk result (λ copy. copy ≡ self.now) }
         ensures proper { is_proper self.now };
 
-    /// Takes over the state of another machine. Fails if memory runs out, and then changes nothing.
+    /// Copies the state of another machine into this one. If memory runs out, fails and changes nothing.
     fn copy_from(&mut self, other: &Self) -> Result<(), AllocError>
         ensures ok { OnOk result (self.new ≡ other.now) }
         ensures err { OnErr result (self.new ≡ self.old) }
@@ -117,7 +116,7 @@ pub trait Traced: Drop + Sized {
         Ok(())
     }
 
-    /// The memory is a part of the state.
+    /// The memory is one part of the state.
     ghost memory_of_changed: { (s : Self) (m : List ℕ) → memory (with_memory s m) ≡ m };
 
     ghost changed_to_same: { (s : Self) → with_memory s (memory s) ≡ s };
@@ -125,14 +124,13 @@ pub trait Traced: Drop + Sized {
     ghost changed_twice: { (s : Self) (m n : List ℕ)
         → with_memory (with_memory s m) n ≡ with_memory s n };
 
-    /// The memory of a proper state has `MEMORY_BYTES` bytes. Nothing else is required of the
-    /// memory.
+    /// The memory of a proper state has `MEMORY_BYTES` bytes. The memory has to satisfy nothing else.
     ghost proper_size: { (s : Self) → is_proper s → length (memory s) ≡ memory_size };
 
     ghost proper_changed: { (s : Self) (m : List ℕ) → is_proper s → length m ≡ memory_size
         → is_proper (with_memory s m) };
 
-    /// A step keeps a state proper.
+    /// A step preserves that a state is proper.
     ghost step_keeps: { (s : Self) (keys : ℕ) (tick : Bool) → is_proper s
         → is_proper (step_of s keys tick) };
 

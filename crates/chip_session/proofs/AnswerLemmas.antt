@@ -1,4 +1,4 @@
--- An answer from the kept run is the answer of the definition.
+-- An answer computed from the kept run is the answer in the definition.
 use Rattle.std.proofs.Common.{◌≡◌, ℕ, List, [], Option, Some, None, Ok, false, refl, sym, ap, ◌∙◌}
 use Rattle.std.specs.Prelude.{is_none, nat_lt, unwrap_or}
 use Rattle.chip_asm.specs.Program.{image_of}
@@ -25,7 +25,7 @@ same_state : (lines : List (List ℕ)) (kept : KeptRun) (image : List ℕ) (step
     machine_after kept step ≡ machine_at (session_on lines kept) image step
 same_state lines kept image step is = ap (λ state. state step) (same_machine lines kept image is)
 
--- the case that the lines have an image
+-- the case in which the lines have an image
 pub machine_is : (lines : List (List ℕ)) (kept : KeptRun) → IsLastImage (image_of lines) kept.last_image → is_none (image_of lines) ≡ false →
     machine_after kept ≡ machine_of (session_on lines kept)
 machine_is lines kept last some =

@@ -15,7 +15,7 @@ use Rattle.chip_session.specs.Kept.{KeptRun, FollowsImage, IsLastImage}
 use Rattle.chip_session.specs.Settings.{SessionSettings}
 use Rattle.chip_session.specs.inner.InStep.{Replays}
 
--- the memory at the start with another image
+-- the start memory with another image in it is the start memory of that image
 other_image : (old new : List ℕ) → ImageAndZeros → SameBelowTheImage → length new ≤ IMAGE_BYTES →
     take IMAGE_START (start_memory old) ++ padded new ≡ start_memory new
 other_image old new there below fits =
@@ -23,7 +23,7 @@ other_image old new there below fits =
     ∙ ap (λ rest. take IMAGE_START (start_memory new) ++ rest) (sym (there new fits))
     ∙ take-append-drop IMAGE_START (start_memory new)
 
--- a machine at the start with another image is the machine that starts with it
+-- a start state into which another image is put is the start state of that image
 pub restarted : (old new tape : List ℕ) (quirks : Quirks) → ImageAndZeros → SameBelowTheImage → length new ≤ IMAGE_BYTES →
     with_image memory_of with_memory new (start_of old tape quirks) ≡ start_of new tape quirks
 restarted old new tape quirks there below fits =
@@ -40,7 +40,7 @@ replays_next settings old new before after kept there below fits start rate spac
       fits = fits;
     }
 
--- a run whose last image is that of the lines follows them without a change
+-- a run whose last image is the image of the lines follows the lines unchanged
 pub follows_same : (image : Option (List ℕ)) (kept : KeptRun) → Some kept.last_image ≡ image → FollowsImage image kept kept
 follows_same image kept there = subst (λ (now : Option (List ℕ)). FollowsImage now kept kept) there (record {
   last_image = refl;
@@ -48,7 +48,7 @@ follows_same image kept there = subst (λ (now : Option (List ℕ)). FollowsImag
   without_image = tt;
 })
 
--- the places that an edit wrote, in terms of the last image
+-- the range that an edit wrote also bounds the changes relative to the last image
 pub outside_written : (before after : Option (List ℕ)) (last : List ℕ) (written : Option (Range ℕ)) → IsLastImage before last
     → IfSome written (λ places. AgreesOutside places.start places.end before after)
     → IfSome written (λ places. IfSome after (AgreeOutside places.start places.end last))

@@ -1,4 +1,4 @@
--- The key events of a file, one line after another.
+-- The key events of a file, line by line.
 use Rattle.std.proofs.Common.{◌≡◌, ◌==◌, ℕ, ◌+◌, List, [], ◌∷◌, length, map, true, Option, Some, None, ap, arith, eqb-true, refl, sym, ◌∙◌}
 use Rattle.std.specs.Str.Lines.{lines}
 use Rattle.chip_files.specs.KeyLines.{key_command, key_commands}
@@ -23,7 +23,7 @@ module _ (s : Session) (n : ℕ) (bytes line rest : List ℕ) (first : lines byt
   pub session_later : session_after s (key_commands bytes) ≡ session_after (after s (key_command line)) (key_commands rest)
   session_later = ap (λ ls. session_after s (map key_command ls)) first
 
--- the case that no lines are left
+-- the case in which no lines are left
 pub no_lines : (bytes : List ℕ) → (length bytes == 0) ≡ true → lines bytes ≡ []
 no_lines [] e = refl
 no_lines (x ∷ xs) e = absurd (let n : length (x ∷ xs) ≡ 0 = eqb-true (length (x ∷ xs)) 0 e in omega arith)

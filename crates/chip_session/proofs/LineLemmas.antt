@@ -8,7 +8,7 @@ use Rattle.chip_session.specs.Lines.{all_but_last, last_part, complete_lines, un
 use Rattle.chip_asm.specs.Lines.{is_newline, lines_of}
 use Rattle.chip_asm.proofs.CutSteps.{filled}
 
--- a byte appended to the last part
+-- appends a byte to the last part
 abbrev onto_last : ℕ → List (List ℕ) → List (List ℕ)
 onto_last b [] = (b ∷ []) ∷ []
 onto_last b (part ∷ []) = (part ++ b ∷ []) ∷ []
@@ -62,7 +62,7 @@ last_push : (part new : List ℕ) (parts : List (List ℕ)) → last_part ((part
 last_push part new [] = refl
 last_push part new (next ∷ parts) = last_push next new parts
 
--- a byte other than a newline is appended to the unfinished line
+-- a byte other than a newline leaves the complete lines unchanged
 pub complete_byte : (xs : List ℕ) (b : ℕ) → is_newline b ≡ false → complete_lines (xs ++ b ∷ []) ≡ complete_lines xs
 unfolding complete_lines
 complete_byte xs b other =
@@ -83,7 +83,7 @@ none_here : (a b : Bool) → (a || b) ≡ false → (a ≡ false) × (b ≡ fals
 none_here true b e = absurd (cc)
 none_here false b e = (refl, e)
 
--- bytes without a newline are appended to the unfinished line
+-- bytes without a newline leave the complete lines unchanged
 pub complete_part : (part xs : List ℕ) → list_any is_newline part ≡ false → complete_lines (xs ++ part) ≡ complete_lines xs
 complete_part [] xs none = ap complete_lines (append-nil xs)
 complete_part (b ∷ part) xs none =
@@ -97,7 +97,7 @@ unfinished_part (b ∷ part) xs none =
     ap unfinished_line (sym (append_assoc xs (b ∷ []) part)) ∙ unfinished_part part (xs ++ b ∷ []) each.1
     ∙ ap (λ l. l ++ part) (unfinished_byte xs b each.0) ∙ append_assoc (unfinished_line xs) (b ∷ []) part
 
--- the bytes before the first newline
+-- the bytes before the first newline contain no newline
 pub none_before : (xs : List ℕ) (n : ℕ) → ((k : ℕ) → k < n → is_newline (get_or xs k 0) ≡ false) → list_any is_newline (take n xs) ≡ false
 none_before xs zero none = refl
 none_before [] (suc n) none = refl
@@ -120,7 +120,7 @@ unfinished_newline xs =
     let f = filled xs in
     ap last_part (split_push_yes xs ∙ ap (λ parts. parts ++ [] ∷ []) f.is) ∙ last_push f.first [] f.others
 
--- the line that the end of the bytes ends
+-- the unfinished line as the last line, unless it is empty
 abbrev pub last_line : List ℕ → List (List ℕ)
 last_line text = cond (length text == 0) [] (text ∷ [])
 
@@ -145,7 +145,7 @@ pub unfinished_none : unfinished_line [] ≡ []
 unfolding unfinished_line
 unfinished_none = refl
 
--- a list that continues a front
+-- the first list is a prefix of the second
 pub record GoesOn (front all : List (List ℕ)) : Type 0 where
   pub back : List (List ℕ)
   pub is : all ≡ front ++ back
@@ -160,7 +160,7 @@ one_more_byte xs b = newline_or (is_newline b) refl
       is = ap (λ c. complete_lines (xs ++ c ∷ [])) (eqb-true b 10 same) ∙ complete_newline xs;
     }
 
--- the complete lines stay, whatever follows
+-- complete lines remain, whatever bytes follow
 pub complete_goes_on : (ys xs : List ℕ) → GoesOn (complete_lines xs) (complete_lines (xs ++ ys))
 complete_goes_on [] xs = record { back = []; is = ap complete_lines (append-nil xs) ∙ sym (append-nil (complete_lines xs)) }
 complete_goes_on (y ∷ ys) xs =
@@ -188,7 +188,7 @@ last_filled u h = ap (λ t. cond t [] (u ∷ [])) (positive (length u) h)
 byte_is_last : (u : List ℕ) (b : ℕ) → last_line (u ++ b ∷ []) ≡ (u ++ b ∷ []) ∷ []
 byte_is_last u b = last_filled (u ++ b ∷ []) (omega (arith, length-append u (b ∷ [])))
 
--- one more byte makes one line more than the complete lines
+-- with one more byte, the script has one line more than the complete lines so far
 longer_byte : (xs : List ℕ) (y : ℕ) (t : Bool) → is_newline y ≡ t → length (complete_lines xs) + 1 ≡ length (lines_of (xs ++ y ∷ []))
 longer_byte xs y false other = sym (ap length (lines_is (xs ++ y ∷ []) ∙ ap (λ u. complete_lines (xs ++ y ∷ []) ++ last_line u) (unfinished_byte xs y other)
     ∙ ap (λ l. complete_lines (xs ++ y ∷ []) ++ l) (byte_is_last (unfinished_line xs) y)
@@ -201,7 +201,7 @@ longer_byte xs y true same = sym (ap (λ c. length (lines_of (xs ++ c ∷ []))) 
 grows : (xs ys : List (List ℕ)) → GoesOn xs ys → length xs ≤ length ys
 grows xs ys g = omega (arith, ap length g.is, length-append xs g.back)
 
--- one or more further bytes make at least one line more than the complete ones
+-- with one or more bytes more, the script has at least one line more than the complete lines so far
 pub longer : (ys xs : List ℕ) (y : ℕ) → length (complete_lines xs) < length (lines_of (xs ++ y ∷ ys))
 longer [] xs y = omega (arith, longer_byte xs y (is_newline y) refl)
 longer (z ∷ ys) xs y =

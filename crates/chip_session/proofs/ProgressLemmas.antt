@@ -55,14 +55,14 @@ take_part_more u part = ⊎_elim
 kept_length : {start : Session} {before given : List ℕ} {old : Conversation} {held : Option (List ℕ)} → Reached start before given old held → length old.line.items ≤ KEPT_LEN
 kept_length {given = given} r = omega (arith, ap length r.line, length-take KEPT_LEN (unfinished_line given))
 
--- taking at least the length of a list takes all of it
+-- taking at least as many items as a list has returns the whole list
 pub take_min : (k : ℕ) (xs : List ℕ) → take (min k (length xs)) xs ≡ take k xs
 take_min k xs = ⊎_elim
     (λ (less : k < length xs). let same : min k (length xs) ≡ k = omega arith in ap (λ n. take n xs) same)
     (λ (all : length xs ≤ k). let same : min k (length xs) ≡ length xs = omega arith in ap (λ n. take n xs) same ∙ take_all (length xs) xs (omega arith) ∙ sym (take_all k xs all))
     (cases_lt k (length xs))
 
--- the bytes kept of a line and of the bytes after it
+-- the bytes kept of a line, after the bytes that follow were appended
 pub kept_more : (line part : List ℕ) (n : ℕ) → length line ≤ KEPT_LEN → n ≡ min (KEPT_LEN - length line) (length part) → line ++ take n part ≡ take KEPT_LEN (line ++ part)
 kept_more line part n short is =
     let room : KEPT_LEN ≡ length line + (KEPT_LEN - length line) = omega arith in
@@ -78,7 +78,7 @@ record Partway (start : Session) (before given : List ℕ) (session : Session) (
   within : WithinBounds given
   told : holds ≡ Some (before ++ transcript_of start (complete_lines given))
 
--- more bytes of a line
+-- takes more bytes of a line
 part_taken : {start : Session} {before given : List ℕ} {old : Conversation} {held : Option (List ℕ)} (part : List ℕ) → list_any is_newline part ≡ false →
     old.taken + length part ≤ SCRIPT_BYTES → old.complete < SCRIPT_LINES → Reached start before given old held →
     Partway start before (given ++ part) old.bench.session (take KEPT_LEN (old.line.items ++ part)) old.complete (old.taken + length part) held
@@ -91,7 +91,7 @@ part_taken {start} {before} {given} {old} {held} part none few h r = record {
   told = r.told ∙ ap (λ l. Some (before ++ transcript_of start l)) (sym (complete_part part given none));
 }
 
--- more bytes of a line that are kept
+-- takes more bytes of a line and keeps them
 pub carries_part : {old : Conversation} {held : Option (List ℕ)} (new : Conversation) (part : List ℕ) → list_any is_newline part ≡ false →
     old.taken + length part ≤ SCRIPT_BYTES → old.complete < SCRIPT_LINES →
     new.bench.session ≡ old.bench.session → (length old.line.items ≤ KEPT_LEN → new.line.items ≡ take KEPT_LEN (old.line.items ++ part)) →
@@ -117,7 +117,7 @@ transcript_newline start before given bench e kept k =
     ∙ sym (transcript_push start (complete_lines given) (strip_carriage_return (unfinished_line given)))
     ∙ ap (transcript_of start) (sym (complete_newline given))
 
--- a newline, after which the answer has been written
+-- after a newline and its answer
 reached_newline : {start : Session} {before given : List ℕ} {session : Session} {line : List ℕ} {complete taken : ℕ} {new : Conversation} {held holds : Option (List ℕ)} →
     Partway start before given session line complete taken held → taken < SCRIPT_BYTES → complete < SCRIPT_LINES →
     Appends held holds (reply session (strip_carriage_return line)) →
@@ -136,7 +136,7 @@ reached_newline {start} {before} {given} {session} {line} {complete} {taken} {ne
   told = appends_known held holds _ _ p.told said ∙ ap Some (append_assoc before (transcript_of start (complete_lines given)) _ ∙ ap (λ t. before ++ t) (transcript_newline start before given session p.session_is line p.line_is));
 }
 
--- a front of the answer, where the writer failed
+-- the writer failed after a prefix of the answer
 front_newline : {start : Session} {before given : List ℕ} {session : Session} {line : List ℕ} {complete taken : ℕ} {held holds : Option (List ℕ)} →
     Partway start before given session line complete taken held →
     ((front : List ℕ) × BeginsWith (reply session (strip_carriage_return line)) front × Appends held holds front) →
@@ -167,7 +167,7 @@ at_bound : {start : Session} {before given : List ℕ} {old : Conversation} {hel
 at_bound r (inl p) = inl (omega (arith, r.within.bytes, r.taken))
 at_bound {given = given} r (inr p) = inr (omega (arith, r.within.line_count, r.complete, complete_within given))
 
--- bytes past a bound
+-- bytes beyond a limit
 pub stopped_bound : {start : Session} {before given : List ℕ} {old : Conversation} {held : Option (List ℕ)} (more : List ℕ) → 0 < length more → Reached start before given old held →
     ((SCRIPT_BYTES ≤ old.taken) ⊎ (SCRIPT_LINES ≤ old.complete)) → Stopped stop.TooMuchInput start before (given ++ more) held
 stopped_bound {given = given} more some r past = record {
@@ -177,13 +177,13 @@ stopped_bound {given = given} more some r past = record {
   stopped = (r.within, at_bound r past, some, r.told);
 }
 
--- more lines are taken
+-- takes more lines
 pub carries_more : {old : Conversation} {held : Option (List ℕ)} (mid : Conversation) (kept : Option (List ℕ)) (new : Conversation) (holds : Option (List ℕ)) (xs ys : List ℕ) (result : Result Unit Stop) →
     Carries old held xs (Ok tt) mid kept → Carries mid kept ys result new holds → Carries old held (xs ++ ys) result new holds
 carries_more mid kept new holds xs ys result one two start before given r =
     subst (λ l. Went result start before l new holds) (append_assoc given xs ys) (two start before (given ++ xs) (one start before given r))
 
--- more bytes at hand, after a stop
+-- a stop remains the result if more bytes follow
 pub carries_stop : {old : Conversation} {held : Option (List ℕ)} (new : Conversation) (holds : Option (List ℕ)) (xs ys : List ℕ) (e : Stop) →
     Carries old held xs (Err e) new holds → Carries old held (xs ++ ys) (Err e) new holds
 carries_stop new holds xs ys e one start before given r =
@@ -207,7 +207,7 @@ none_kept : (u : List ℕ) → length (take KEPT_LEN u) ≡ 0 → last_line u �
 none_kept [] h = refl
 none_kept (x ∷ xs) h = absurd (omega (arith, h, length-take KEPT_LEN (x ∷ xs)))
 
--- the end, with no line unfinished
+-- at the end, if no line is unfinished
 pub ended_empty : {start : Session} {before given : List ℕ} {old : Conversation} {held : Option (List ℕ)} → Reached start before given old held → length old.line.items ≡ 0 →
     held ≡ Some (before ++ transcript_of start (lines_of given))
 ended_empty {start} {before} {given} {old} {held} r h = r.told ∙ ap (λ l. Some (before ++ transcript_of start l))
@@ -221,7 +221,7 @@ transcript_end {start} {before} {given} {old} {held} r h =
     ∙ ap (λ t. transcript_of start (complete_lines given) ++ t)
     (sym (reply_kept (session_after start (complete_lines given)) (unfinished_line given)) ∙ sym (ap (λ s. reply s (take KEPT_LEN (unfinished_line given))) r.session) ∙ sym (ap (reply old.bench.session) r.line))
 
--- the end, with the answer to the last line
+-- at the end, after the answer to the last line
 pub ended_said : {start : Session} {before given : List ℕ} {old : Conversation} {held : Option (List ℕ)} (holds : Option (List ℕ)) (result : Result Unit Stop) → Reached start before given old held →
     0 < length old.line.items → Says result held holds (reply old.bench.session old.line.items) → Ended result start before given holds
 ended_said {start} {before} {given} {old} {held} holds (Ok _) r h said =
@@ -249,7 +249,7 @@ reached_none start before c held bench line complete taken h = record {
 line_split : (bytes : List ℕ) (n : ℕ) → n < length bytes → get_or bytes n 0 ≡ 10 → take (n + 1) bytes ≡ take n bytes ++ 10 ∷ []
 line_split bytes n lt newline = take_more bytes n 0 lt ∙ ap (λ b. take n bytes ++ b ∷ []) newline
 
--- a part of a piece, and the next part of it
+-- takes a part of a piece, and then its next part
 pub carries_on : {old : Conversation} {held : Option (List ℕ)} (mid : Conversation) (kept : Option (List ℕ)) (new : Conversation) (holds : Option (List ℕ)) (piece : List ℕ) (n count : ℕ) →
     Carries old held (take n piece) (Ok tt) mid kept → Carries mid kept (take count (drop n piece)) (Ok tt) new holds →
     Carries old held (take (n + count) piece) (Ok tt) new holds
@@ -257,7 +257,7 @@ carries_on mid kept new holds piece n count one two start before given r =
     subst (λ l. Reached start before (given ++ l) new holds) (sym (take-add n count piece))
     (carries_more mid kept new holds (take n piece) (take count (drop n piece)) (Ok tt) one two start before given r)
 
--- a piece that goes past the bound on bytes
+-- a piece that exceeds the limit on bytes
 pub carries_past : {old : Conversation} {held : Option (List ℕ)} (new : Conversation) (holds : Option (List ℕ)) (piece : List ℕ) (n : ℕ) → n < length piece →
     SCRIPT_BYTES ≤ new.taken → Carries old held (take n piece) (Ok tt) new holds → Carries old held piece (Err stop.TooMuchInput) new holds
 carries_past new holds piece n less full one start before given r =
@@ -265,14 +265,14 @@ carries_past new holds piece n less full one start before given r =
     (append_assoc given (take n piece) (drop n piece) ∙ ap (λ l. given ++ l) (take-append-drop n piece))
     (stopped_bound (drop n piece) (omega (arith, length-drop n piece)) (one start before given r) (inl full))
 
--- a stop within a front of a piece
+-- a stop within a prefix of a piece
 pub carries_front : {old : Conversation} {held : Option (List ℕ)} (new : Conversation) (holds : Option (List ℕ)) (piece : List ℕ) (n : ℕ) (e : Stop) →
     Carries old held (take n piece) (Err e) new holds → Carries old held piece (Err e) new holds
 carries_front new holds piece n e one start before given r =
     subst (λ l. Stopped e start before (given ++ l) holds) (take-append-drop n piece)
     (carries_stop new holds (take n piece) (drop n piece) e one start before given r)
 
--- the place of a newline, with none before it
+-- the index of the first newline
 record FirstNewline (bytes : List ℕ) (n : ℕ) : Type 0 where
   within : n < length bytes
   newline : get_or bytes n 0 ≡ 10
@@ -290,13 +290,13 @@ no_newline bytes found =
     ap (list_any is_newline) (sym (take_all (length bytes) bytes (omega arith)))
     ∙ none_before bytes (length bytes) (λ k lt. false_from_ne_true _ (found k (omega arith) lt))
 
--- all bytes
+-- taking all bytes of a piece is taking the piece
 pub carries_all : {old : Conversation} {held : Option (List ℕ)} (new : Conversation) (holds : Option (List ℕ)) (bytes : List ℕ) →
     Carries old held bytes (Ok tt) new holds → Carries old held (take (length bytes) bytes) (Ok tt) new holds
 carries_all new holds bytes all start before given r =
     subst (λ l. Reached start before (given ++ l) new holds) (sym (take_all (length bytes) bytes (omega arith))) (all start before given r)
 
--- the bytes of a line, its newline, and the answer to it
+-- takes the bytes of a line and its newline, and answers the line
 pub carries_answer : {old : Conversation} {held : Option (List ℕ)} (new : Conversation) (holds : Option (List ℕ)) (bytes : List ℕ) (n : ℕ) (result : Result Unit Stop) →
     IsFirstByte (is_byte 10) bytes (Some n) → old.taken + length bytes ≤ SCRIPT_BYTES → old.complete < SCRIPT_LINES →
     (length old.line.items ≤ KEPT_LEN → Says result held holds (reply old.bench.session (strip_carriage_return (take KEPT_LEN (old.line.items ++ take n bytes))))) →

@@ -1,4 +1,4 @@
--- The states of a replay that is in step with a kept run.
+-- The states of a replay that belongs to a kept run.
 use Rattle.std.proofs.Common.{◌≡◌, List, ℕ, refl}
 use Rattle.chip_machine.specs.State.{State}
 use Rattle.chip_replay.specs.History.{History}

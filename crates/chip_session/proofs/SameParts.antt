@@ -1,4 +1,4 @@
--- Two lists that were compared from a place on.
+-- Two lists that were compared from an index on.
 use Rattle.std.proofs.Common.{◌≡◌, ◌≤◌, ◌<◌, ◌+◌, ◌-◌, ◌⊎◌, ◌++◌, min, inl, inr, ℕ, Bool, true, false, not, List, length, get_or, take, drop, refl, ap, sym, ◌∙◌, arith}
 use Rattle.std.specs.Str.{bytes_eq}
 use Rattle.chip_replay.specs.Image.{AgreeOutside}
@@ -10,7 +10,7 @@ told : (b : Bool) → false ≡ not b → b ≡ true
 told true e = refl
 told false e = e
 
--- a list from a place on, as a slice with that range has it
+-- the items of a list from an index on, in the form in which slices are defined
 abbrev pub part : ℕ → List ℕ → List ℕ
 part rest all = take (length all - rest) (drop rest all)
 
@@ -21,7 +21,7 @@ module _ (old new : List ℕ) (rest : ℕ) (test : false ≡ not (bytes_eq (part
   same : drop rest old ≡ drop rest new
   same = sym (whole rest old) ∙ (bytes_eq-Decides (part rest old) (part rest new)).0 (told (bytes_eq (part rest old) (part rest new)) test) ∙ whole rest new
 
-  -- if the rest is the same in both lists, so is each of its items
+  -- if the rest is the same in both lists, each item of it is too
   pub same_in_rest : (i : ℕ) → rest ≤ i → get_or old i 0 ≡ get_or new i 0
   same_in_rest i behind = sym (at old) ∙ ap (λ (items : List ℕ). get_or items (i - rest) 0) same ∙ at new
     where
@@ -31,7 +31,7 @@ module _ (old new : List ℕ) (rest : ℕ) (test : false ≡ not (bytes_eq (part
       at : (all : List ℕ) → get_or (drop rest all) (i - rest) 0 ≡ get_or all i 0
       at all = get_or-drop rest all (i - rest) 0 ∙ ap (λ k. get_or all k 0) back
 
-  -- if the items before the place are the same too, the lists are the same
+  -- if the items before the index are also the same, the lists are the same
   pub same_lists : rest ≤ length old → rest ≤ length new → ((i : ℕ) → i < rest → get_or old i 0 ≡ get_or new i 0) → old ≡ new
   same_lists in_old in_new before = ext_get_or 0 old new (omega (arith, rests)) (λ i inside. by i (cases_lt i rest))
     where
@@ -42,8 +42,8 @@ module _ (old new : List ℕ) (rest : ℕ) (test : false ≡ not (bytes_eq (part
       by i (inl front) = before i front
       by i (inr behind) = same_in_rest i behind
 
--- lists of one length that agree outside some places agree outside those of the places that lie
--- within the length
+-- if lists of equal length agree outside a range, they also agree outside the part of that range
+-- that lies within the length
 pub within_length : (old new : List ℕ) (first end low high : ℕ) → length old ≡ length new → AgreeOutside first end old new → high ≡ min end (length old) → low ≡ min first high
     → AgreeOutside low high old new
 within_length old new first end low high long alike is_high is_low = record {
@@ -55,7 +55,7 @@ within_length old new first end low high long alike is_high is_low = record {
     by i behind (inl inside) = alike.after i (omega (arith, is_high))
     by i behind (inr past) = get_or_past old i 0 past ∙ sym (get_or_past new i 0 (omega (arith, long)))
 
--- if the lists also agree at those places, they are the same
+-- if the lists also agree inside that range, they are the same
 pub same_between : (old new : List ℕ) (low high : ℕ) → length old ≡ length new → AgreeOutside low high old new
     → take (high - low) (drop low old) ≡ take (high - low) (drop low new) → old ≡ new
 same_between old new low high long alike between = ext_get_or 0 old new long (λ i inside. by i (cases_lt i low) (cases_lt i high))
@@ -71,7 +71,7 @@ same_between old new low high long alike between = ext_get_or 0 old new long (λ
     by i (inr from) (inr behind) = alike.after i behind
     by i (inr from) (inl to) = sym (at old i from to) ∙ ap (λ (items : List ℕ). get_or items (i - low) 0) between ∙ at new i from to
 
--- a list up to a place before which it agrees with another list, followed by the rest of that list
+-- the items of `old` before an index, followed by the rest of `new`, are `new` if the lists agree before the index
 pub renewed : (old new : List ℕ) (first : ℕ) → first ≤ min (length old) (length new) → ((i : ℕ) → i < first → get_or old i 0 ≡ get_or new i 0)
     → take first old ++ part first new ≡ new
 renewed old new first start alike =

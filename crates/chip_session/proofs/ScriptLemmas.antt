@@ -1,5 +1,5 @@
--- The transcript of a script in two parts, and the answer to a line that is cut off because it is
--- too long.
+-- The transcript of a script in two parts, and the answer to a line that is cut because it is too
+-- long.
 use Rattle.std.proofs.Common.{◌≡◌, ◌⊎◌, ℕ, ◌+◌, ◌-◌, ◌<◌, ◌≤◌, ◌==◌, ◌&&◌, Bool, true, false, cond, List, [], ◌∷◌, ◌++◌, length, take, refl, sym, ◌∙◌, ap, append_assoc, arith, None, Ok, Err, Result, IsOkAnd, inl, inr, ⊎_elim}
 use Rattle.std.specs.Result.{OnErr}
 use Rattle.std.specs.Str.Lines.{strip_carriage_return}
@@ -43,7 +43,7 @@ strip_length_by false l = omega arith
 strip_length : (l : List ℕ) → length l ≤ length (strip_carriage_return l) + 1
 strip_length l = strip_length_by _ l
 
--- the kept bytes of a line have the same answer as the line
+-- the kept bytes of a line get the same answer as the whole line
 pub reply_kept : (s : Session) (line : List ℕ) → reply s (take KEPT_LEN line) ≡ reply s line
 reply_kept s line = ⊎_elim (λ (long : KEPT_LEN < length line). reply_long s _ _ (rw length-take (omega arith)) (omega arith)) (λ (short : length line ≤ KEPT_LEN). ap (reply s) (take_all KEPT_LEN line short)) (cases_lt KEPT_LEN (length line))
 
@@ -78,18 +78,18 @@ pub refusal_is : (s : Session) (line : List ℕ) (read : Result Command CommandF
 unfolding refusal
 refusal_is s line read h = ap (command_refusal s) h
 
--- a refusal, unless it is for a lack of memory, is the one in the definition
+-- a refusal is the one in the definition, unless memory ran out
 pub no_memory : {P Q X : Type 0} {e m : X} → P ⊎ ((e ≡ m) × Q) → (e ≡ m → ⊥) → P
 no_memory (inl p) h = p
 no_memory (inr q) h = absurd (h q.0)
 
--- a refusal of an edit, unless it is for a lack of memory, is the one in the definition; the
--- hypothesis also says that the edit may need memory
+-- the refusal of an edit is the one in the definition, unless memory ran out; the hypothesis also
+-- states that the edit may need memory
 pub not_for_memory : {P Q R X : Type 0} {e m : X} → P ⊎ ((e ≡ m) × Q × R) → (e ≡ m → ⊥) → P
 not_for_memory (inl p) h = p
 not_for_memory (inr q) h = absurd (h q.0)
 
--- the refusals of edits that run out of memory say so, and no other refusals do
+-- `is_for_memory` is true for the refusal of an edit that runs out of memory, and for no other refusal
 pub for_memory : (c : Edit) → is_for_memory (memory_refusal c) ≡ true
 for_memory (insert_line number text) = refl
 for_memory (replace_line number text) = refl
@@ -101,7 +101,7 @@ for_memory (delete_event step key) = refl
 pub not_memory : (e m : Refusal) → is_for_memory m ≡ true → is_for_memory e ≡ false → e ≡ m → ⊥
 not_memory e m is other same = let never : true ≡ false = sym is ∙ ap is_for_memory (sym same) ∙ other in cc
 
--- anything that holds in any case holds if there is an error
+-- a proposition that holds unconditionally also holds if there is an error
 pub on_err : {A E P : Type 0} (r : Result A E) → P → OnErr r P
 on_err (Ok x) h = tt
 on_err (Err e) h = h
@@ -115,7 +115,7 @@ pub ask_not_refused : (P : List ℕ → Type 0) (r : Result (List ℕ) Refusal) 
 ask_not_refused P (Ok bytes) h = refl
 ask_not_refused P (Err why) h = absurd h
 
--- a text has only spaces if nothing is left after them
+-- a text contains only spaces if nothing is left after its first spaces
 pub blank_skipped : (text : List ℕ) → (length (skip_spaces text) == 0) ≡ list_all is_space text
 blank_skipped [] = refl
 blank_skipped (byte ∷ text) = by (is_space byte) (blank_skipped text)

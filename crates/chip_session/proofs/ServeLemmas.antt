@@ -1,5 +1,4 @@
--- From how far a script has been carried out to the bytes that a call of `serve` has read and
--- written.
+-- How much `serve` has read and written, derived from how far the script has been carried out.
 use Rattle.std.proofs.Common.{◌≡◌, ◌⊎◌, inl, inr, ℕ, ◌+◌, ◌-◌, ◌<◌, ◌≤◌, List, [], ◌∷◌, ◌++◌, length, take, Option, Some, None, Ok, Err, refl, sym, ◌∙◌, ap, subst, append_assoc, arith}
 use Rattle.std.specs.Io.KnownBytes.{Keeps, Consumes, IsAtEnd}
 use Rattle.std.proofs.lemmas.List.{append-nil, length-append, take_all, take_at}
@@ -22,14 +21,14 @@ use Rattle.chip_session.proofs.ScriptLemmas.{transcript-append}
 use Rattle.chip_session.proofs.WriteLemmas.{keeps_known}
 use Rattle.chip_lang.specs.Meter.{one_more}
 
--- the case that the reader and the writer report their bytes
+-- the case in which the contents of the reader and the writer are known
 pub exchanges : (had left held holds : Option (List ℕ)) {P : List ℕ → List ℕ → List ℕ → Type 0} →
     ((all before : List ℕ) → had ≡ Some all → held ≡ Some before → Exchanged all left before holds P) → Exchanges had left held holds P
 exchanges None left held holds f = tt
 exchanges (Some all) left None holds f = tt
 exchanges (Some all) left (Some before) holds f = f all before refl refl
 
--- the bytes that a reader has left, if it reports its bytes
+-- the bytes left in a reader whose contents are known
 pub record Read (rest : List ℕ) (bytes : List ℕ) (left : Option (List ℕ)) : Type 0 where
   pub next : List ℕ
   pub left_is : left ≡ Some next
@@ -47,7 +46,7 @@ pub ended_known : (new : Option (List ℕ)) (rest : List ℕ) → new ≡ Some r
 ended_known None rest e h = cc
 ended_known (Some xs) rest e h = cc
 
--- the script so far, and the bytes that the reader has left
+-- the script so far, and the bytes left in the reader
 pub record Underway (all : List ℕ) (left : Option (List ℕ)) (start : Session) (before : List ℕ) (c : Conversation) (holds : Option (List ℕ)) : Type 0 where
   pub given : List ℕ
   pub rest : List ℕ
@@ -68,13 +67,13 @@ reader_failed {left = left} {start = start} new u k = record {
   outcome = (u.reached.within, refl);
 }
 
--- the reader has ended
+-- the reader ended
 pub served_ok : (all given : List ℕ) (left : Option (List ℕ)) (start : Session) (before : List ℕ) (holds : Option (List ℕ)) →
     all ≡ given → left ≡ Some [] → WithinBounds given → Ended (Ok tt) start before given holds → Exchanged all left before holds (Served (Ok tt) start)
 served_ok all given left start before holds e l w h =
     record { given = given; rest = []; written = transcript_of start (lines_of given); read = e ∙ sym (append-nil given); left_is = l; wrote = h; outcome = (refl, w, refl) }
 
--- the reader has ended, and the last line was given up
+-- the reader ended, and the last line was abandoned
 pub served_end : (e : Stop) (all given : List ℕ) (left : Option (List ℕ)) (start : Session) (before : List ℕ) (holds : Option (List ℕ)) →
     all ≡ given → left ≡ Some [] → Ended (Err e) start before given holds → Exchanged all left before holds (Served (Err (fault_of e)) start)
 served_end stop.WriterFailed all given left start before holds e l (front, begins, h) =
@@ -91,7 +90,7 @@ served_end stop.OutOfMemory all given left start before holds e l h =
     }
 served_end stop.TooMuchInput all given left start before holds e l h = absurd h
 
--- the lines within the bounds, when either bound is reached
+-- the lines within the limits, if either limit is reached
 in_bounds : (done more : List ℕ) → WithinBounds done → length (complete_lines done) ≤ SCRIPT_LINES → (length done ≡ SCRIPT_BYTES) ⊎ (length (complete_lines done) ≡ SCRIPT_LINES) →
     lines_in_bounds (done ++ more) ≡ complete_lines done
 in_bounds done more w few (inl e) =
@@ -109,7 +108,7 @@ passes done [] at h = absurd (omega arith)
 passes done (x ∷ more) (inl e) h = inl (omega (arith, length-append done (x ∷ more)))
 passes done (x ∷ more) (inr e) h = inr (omega (arith, longer more done x))
 
--- the bytes read and written if the script was given up
+-- the bytes read and written if the script was abandoned
 pub served_stop : (e : Stop) (all given rest : List ℕ) (left : Option (List ℕ)) (start : Session) (before : List ℕ) (holds : Option (List ℕ)) →
     all ≡ given ++ rest → left ≡ Some rest → Stopped e start before given holds → Exchanged all left before holds (Served (Err (fault_of e)) start)
 served_stop stop.WriterFailed all given rest left start before holds a l s =
@@ -159,7 +158,7 @@ served_stop stop.TooMuchInput all given rest left start before holds a l s =
       );
     }
 
--- if a script was given up, its source opens and the reader didn't fail
+-- if a script was abandoned, its source opens and the reader didn't fail
 pub opens_stop : (found : Option OpenError) (e : Stop) → found ≡ None → Opens found (Err (fault_of e))
 opens_stop found stop.WriterFailed h = h
 opens_stop found stop.OutOfMemory h = h
@@ -180,7 +179,7 @@ opened_stop stop.WriterFailed P = tt
 opened_stop stop.OutOfMemory P = tt
 opened_stop stop.TooMuchInput P = tt
 
--- the reader has ended, and the last line was answered
+-- the reader ended, and the last line was answered
 pub exchanged_end : {all : List ℕ} {left : Option (List ℕ)} {start : Session} {before : List ℕ} {c : Conversation} {held : Option (List ℕ)} (new holds : Option (List ℕ)) →
     Underway all left start before c held → Consumes left new [] → IsAtEnd new →
     ((start : Session) (before given : List ℕ) → Reached start before given c held → Ended (Ok tt) start before given holds) → Exchanged all new before holds (Served (Ok tt) start)
@@ -189,7 +188,7 @@ exchanged_end {all} {left} {start} {before} {c} {held} new holds u k at_end ends
     let e : r.next ≡ [] = ended_known new r.next r.left_is at_end in
     served_ok all u.given new start before holds (u.read ∙ ap (λ l. u.given ++ l) (r.split ∙ e) ∙ append-nil u.given) (r.left_is ∙ ap Some e) u.reached.within (ends start before u.given u.reached)
 
--- the reader has ended, and the last line was given up
+-- the reader ended, and the last line was abandoned
 pub exchanged_given_up : {all : List ℕ} {left : Option (List ℕ)} {start : Session} {before : List ℕ} {c : Conversation} {held : Option (List ℕ)} (new holds : Option (List ℕ)) (e : Stop) →
     Underway all left start before c held → Consumes left new [] → IsAtEnd new →
     ((start : Session) (before given : List ℕ) → Reached start before given c held → Ended (Err e) start before given holds) → Exchanged all new before holds (Served (Err (fault_of e)) start)

@@ -1,10 +1,10 @@
--- The bytes that a writer holds after two writes.
+-- The contents of a writer after two writes.
 use Rattle.std.proofs.Common.{◌≡◌, ℕ, List, ◌++◌, take, drop, Option, Some, None, sym, ◌∙◌, ap, append_assoc}
 use Rattle.std.specs.Io.KnownBytes.{Keeps, Appends}
 use Rattle.std.proofs.KnownBytes.{Appends-trans}
 use Rattle.std.proofs.lemmas.List.{take-append-drop}
 
--- known bytes stay known
+-- if the contents are known before a write, they are known after it
 pub appends_known : (a b : Option (List ℕ)) (before x : List ℕ) → a ≡ Some before → Appends a b x → b ≡ Some (before ++ x)
 appends_known None b before x e p = cc
 appends_known (Some xs) None before x e p = absurd p
@@ -18,7 +18,7 @@ keeps_known None b before e p = cc
 keeps_known (Some xs) None before e p = absurd p
 keeps_known (Some xs) (Some ys) before e p = ap Some p ∙ e
 
--- a front of the bytes has been written, and the rest is left
+-- a prefix of the bytes has been written, and the rest is left
 pub record Written (held holds : Option (List ℕ)) (bytes rest : List ℕ) : Type 0 where
   pub front : List ℕ
   pub split : bytes ≡ front ++ rest

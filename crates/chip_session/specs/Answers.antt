@@ -29,7 +29,7 @@ abbrev pub image_answer : Option (List ℕ) → Result (List ℕ) Refusal
 image_answer None = Err NoImage
 image_answer (Some bytes) = Ok (hex_line bytes)
 
--- a line for a name, with its value and the number of its line
+-- a line for a symbol: its name, its value and its line number
 abbrev pub symbol_line : List ℕ × Symbol → List ℕ
 symbol_line named =
     named.0 ++ codes " " ++ signed_decimal named.1.value ++ codes " " ++ decimal named.1.line
@@ -38,7 +38,7 @@ symbol_line named =
 abbrev pub symbols_text : List (List ℕ × Symbol) → List ℕ
 symbols_text symbols = flat_map symbol_line symbols ++ full_stop
 
--- a line for a fault, with the number of the faulty line
+-- a line for a fault: the number of the faulty line, and the fault's code
 abbrev pub fault_line : ℕ × Fault → List ℕ
 fault_line numbered =
     decimal numbered.0 ++ codes " F" ++ decimal (number_of_fault numbered.1) ++ 10 ∷ []
@@ -49,7 +49,7 @@ faults_text faults = flat_map fault_line faults ++ full_stop
 abbrev pub listing_text : List ℕ → List ℕ
 listing_text listing = listing ++ full_stop
 
--- the step that a question is about, if it is about one
+-- the step that a question is about, if there is one
 abbrev pub step_asked : Question → Option ℕ
 step_asked (Registers step) = Some step
 step_asked (Memory step at count) = Some step
@@ -57,7 +57,7 @@ step_asked (Screen step) = Some step
 step_asked (Disassembly step at count) = Some step
 step_asked _ = None
 
--- whether the bytes asked for reach past the end of the memory
+-- whether the requested bytes reach past the end of memory
 abbrev pub asks_past_end : StateQuestion → Bool
 asks_past_end (state.Memory at count) = nat_lt MEMORY_BYTES (at + count)
 asks_past_end (state.Disassembly at count) = nat_lt MEMORY_BYTES (at + 2 * count)
@@ -70,14 +70,14 @@ state_answer (state.Memory at count) s = memory_line s at count
 state_answer state.Screen s = screen_of s
 state_answer (state.Disassembly at count) s = disassembly_of s at count
 
--- the machine with this image after a number of steps from step 0, under the session's keys and
--- settings
+-- the machine with this image after a number of steps from step 0, under the session's key events
+-- and settings
 unfoldable pub machine_at : Session → List ℕ → ℕ → State
 machine_at session image step =
     run step_of session.settings.rate (held session.keys)
     (start_of image session.settings.tape session.settings.quirks) step
 
--- the machine with the session's image, if there is one, at each step
+-- the machine at each step, started with the session's image, or with the empty image if there is none
 abbrev pub machine_of : Session → ℕ → State
 machine_of session = machine_at session (unwrap_or (image_of session.lines) [])
 

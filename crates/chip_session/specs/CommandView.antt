@@ -1,4 +1,4 @@
--- The commands of the code, as the bytes that they hold (chosen by this project).
+-- The commands of the code, with their texts as lists of bytes (chosen by this project).
 use Rattle.std.specs.Prelude.{◌≡◌, Result, Ok, Err}
 use Rattle.chip_session.specs.Edits.{edit_of}
 use Rattle.chip_session.specs.Commands.{Command, blank, edit, ask}
@@ -11,7 +11,7 @@ command_view parsed.Blank = blank
 command_view (parsed.Edit c) = edit (edit_of c)
 command_view (parsed.Ask question) = ask question
 
--- the code's reading of a line is the given one
+-- the code reads a line as the definition does
 abbrev pub Reads : Result Parsed CommandFault → Result Command CommandFault → Type 0
 Reads (Ok command) reading = reading ≡ Ok (command_view command)
 Reads (Err fault) reading = reading ≡ Err fault

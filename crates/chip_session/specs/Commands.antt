@@ -1,4 +1,4 @@
--- The command that a line of a script spells (chosen by this project).
+-- The command on a line of a script (chosen by this project).
 use Rattle.std.specs.Prelude.{ℕ, ◌&&◌, ◌==◌, not, Bool, true, false, List, [], ◌∷◌, ◌++◌, length, nat_lt, nat_le, Option, Some, None, Result, Ok, Err, if◌then◌else◌, codes}
 use Rattle.std.specs.Char.{is_digit}
 use Rattle.std.specs.Str.{bytes_eq}
@@ -23,7 +23,7 @@ abbrev pub skip_spaces : Text → Text
 skip_spaces [] = []
 skip_spaces (byte ∷ text) = if is_space byte then skip_spaces text else byte ∷ text
 
--- the number that one to `most` digits spell in a base
+-- the number that a text of 1 to `most` digits spells in a base
 abbrev pub numeral : ℕ → ℕ → Text → Option ℕ
 numeral base most digits =
     if nat_lt 0 (length digits) && nat_le (length digits) most
@@ -35,7 +35,7 @@ abbrev pub number_spelled : Text → Option ℕ
 number_spelled [] = None
 number_spelled (byte ∷ word) = if byte == 35 then numeral 16 7 word else numeral 10 9 (byte ∷ word)
 
--- the first word of the rest of a line, and the text after that word and its spaces
+-- the first word of the operands; `next_words` is the text after that word and its spaces
 abbrev pub first_word : Text → Text
 first_word operands = before_first is_space operands
 
@@ -45,11 +45,11 @@ next_words operands = skip_spaces (after_first is_space operands)
 abbrev pub is_empty : Text → Bool
 is_empty text = length text == 0
 
--- the number at the start
+-- the number at the start of the operands
 abbrev pub front_number : Text → Option ℕ
 front_number operands = number_spelled (first_word operands)
 
--- a number, and nothing after it
+-- a single number
 unfoldable pub one_number : Text → Option ℕ
 one_number operands = if is_empty (next_words operands) then front_number operands else None
 
@@ -58,15 +58,15 @@ paired None rest = None
 paired (Some n) None = None
 paired (Some n) (Some x) = Some (n, x)
 
--- two numbers, and nothing after them
+-- exactly two numbers
 unfoldable pub two_numbers : Text → Option (ℕ × ℕ)
 two_numbers operands = paired (front_number operands) (one_number (next_words operands))
 
--- three numbers, and nothing after them
+-- exactly three numbers
 unfoldable pub three_numbers : Text → Option (ℕ × (ℕ × ℕ))
 three_numbers operands = paired (front_number operands) (two_numbers (next_words operands))
 
--- `down` or `up`, and nothing after it
+-- the single word `down` or `up`
 unfoldable pub key_state : Text → Option Bool
 key_state operands =
     if not (is_empty (next_words operands)) then None
@@ -74,30 +74,29 @@ key_state operands =
     else if bytes_eq (first_word operands) (codes "up") then Some false
     else None
 
--- a step, a key and its state, and nothing after them
+-- exactly a step, a key and the key's state
 unfoldable pub key_event : Text → Option (ℕ × (ℕ × Bool))
 key_event operands =
     paired (front_number operands)
     (paired (front_number (next_words operands)) (key_state (next_words (next_words operands))))
 
--- the command made from a value; without a value, the line is no command
+-- the command built from a value; without a value, the line is not a command
 abbrev pub made : {A : Type 0} → (A → Command) → Option A → Result Command CommandFault
 made command None = Err Unknown
 made command (Some x) = Ok (command x)
 
--- The operands that may follow the word of a command, and the command that they make.
+-- The operands that a command takes, and how the command is built from them.
 pub data Syntax : Type 0 where
   nothing : Question → Syntax
   one : (ℕ → Command) → Syntax
   two : (ℕ → ℕ → Command) → Syntax
   three : (ℕ → ℕ → ℕ → Command) → Syntax
-  -- a step, a key and its state
+  -- a step, a key and the key's state
   event : (ℕ → ℕ → Bool → Command) → Syntax
   -- a number, one space, and the whole text after it
   line_text : (ℕ → Text → Command) → Syntax
 
--- the command that operands of this shape make; the operands begin after the spaces that follow the
--- word
+-- the command built from operands of this shape, which begin after the spaces that follow the word
 abbrev pub read_by : Syntax → Text → Result Command CommandFault
 read_by (nothing question) operands = if is_empty operands then Ok (ask question) else Err Unknown
 read_by (one command) operands = made command (one_number operands)
@@ -107,7 +106,7 @@ read_by (event command) operands = made (λ e. command e.0 e.1.0 e.1.1) (key_eve
 read_by (line_text command) operands =
     made (λ n. command n (after_first is_space operands)) (front_number operands)
 
--- a row for each command: its word and its operands
+-- a row of the table of commands: a word and its operands
 abbrev pub CommandRow : Type 0
 CommandRow = Text × Syntax
 
@@ -141,7 +140,7 @@ machine_questions =
     ∷ (codes "dis", three (λ step at count. ask (Disassembly step at count)))
     ∷ []
 
--- the command of the first row that has the word
+-- the command of the first row with this word
 abbrev pub command_in : List CommandRow → Text → Text → Result Command CommandFault
 command_in [] word operands = Err Unknown
 command_in (row ∷ rows) word operands =

@@ -1,4 +1,4 @@
--- The lines of its source that an edit of a session reads and encodes (chosen by this project).
+-- The number of lines that an edit of a session reads and encodes (chosen by this project).
 use Rattle.std.specs.Prelude.{◌≡◌, ◌≤◌, ◌+◌, ◌-◌, ℕ, List, length, insert, remove, slice_set, Option, None, IsSome}
 use Rattle.chip_lang.specs.Meter.{one_more}
 use Rattle.chip_lang.specs.declared.meter.Meter.{Meter}
@@ -8,8 +8,8 @@ use Rattle.chip_asm.specs.Work.{lines_to_encode}
 use Rattle.chip_session.specs.Session.{Edit, insert_line, replace_line, delete_line, insert_event, replace_event, delete_event}
 
 -- A refused edit of the lines costs nothing. Any other edit reads the given number of lines and
--- encodes no more lines than have to be encoded, even if memory runs out. The count of lines
--- encoded so far never falls. `origin` says where a line was before the edit.
+-- encodes at most the lines that have to be encoded, even if memory runs out. The count of encoded
+-- lines never falls. `origin` maps each line to its place before the edit.
 pub record LineCosts (refusal : Option SourceRefusal) (reads : ℕ → ℕ) (old new : List (List ℕ))
     (origin : ℕ → Option ℕ) (before after : Meter) : Type 0 where
   pub refused : IsSome refusal → after ≡ before
@@ -17,7 +17,7 @@ pub record LineCosts (refusal : Option SourceRefusal) (reads : ℕ → ℕ) (old
   pub encoded : after.encoded ≤ before.encoded + lines_to_encode old new origin
   pub not_lowered : before.encoded ≤ after.encoded
 
--- the cost of an edit in a session with these lines; an edit of the key events costs nothing
+-- the cost of an edit in a session with these lines; editing the key events costs nothing
 abbrev pub Costs : Edit → List (List ℕ) → Meter → Meter → Type 0
 Costs (insert_line number text) lines before after =
     LineCosts (insert_refusal (length lines) number text) one_more lines

@@ -1,4 +1,4 @@
--- The edits of the code, as the bytes that they contain (chosen by this project).
+-- The edits of the code, with their texts as lists of bytes (chosen by this project).
 use Rattle.chip_session.specs.Session.{Edit, insert_line, replace_line, delete_line, insert_event, replace_event, delete_event}
 use Rattle.chip_session.specs.declared.edit.Edit.{Edit as Borrowed}
 use Rattle.chip_session.specs.declared.edit.Edit.TheVariants.{Insert, Replace, Delete, InsertKey, ReplaceKey, DeleteKey}

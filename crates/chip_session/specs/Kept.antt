@@ -1,5 +1,5 @@
--- The data that a bench keeps beside its lines: the run of the last image that they had (chosen by
--- this project).
+-- The data that a bench keeps in addition to the lines: the run of the last image that the source
+-- had (chosen by this project).
 use Rattle.std.specs.Prelude.{◌≡◌, ◌≢◌, ℕ, ◌≤◌, ◌-◌, ◌+◌, ◌*◌, ◌/◌, List, [], min, Option, Some, None, OnSome, IfNone, unwrap_or, Result, OnOk, IfErr}
 use Rattle.std.specs.FinMap as map
 use Rattle.chip_machine.specs.State.{State}
@@ -13,8 +13,8 @@ use Rattle.chip_session.specs.Session.{Text, Session, session_with}
 use Rattle.chip_session.specs.declared.refusal.Refusal.{Refusal}
 use Rattle.chip_session.specs.declared.refusal.Refusal.TheVariants.{AnswerMemory}
 
--- the settings; the key events; the last image that the lines had, or the empty one; the step up to
--- which the run of that image is sound; and the number of steps made
+-- the settings; the key events; the last image that the source had, or the empty image; the step up
+-- to which that image's run is still valid; and the number of steps executed
 pub record KeptRun : Type 0 where
   pub settings : SessionSettings
   pub keys : Events
@@ -31,7 +31,7 @@ empty_run settings =
 abbrev pub session_on : List Text → KeptRun → Session
 session_on lines kept = session_with lines kept.keys kept.settings
 
--- the last image is that of the lines, if they have one
+-- the last image is the image of the lines, if they have one
 abbrev pub IsLastImage : Option (List ℕ) → List ℕ → Type 0
 IsLastImage image last = (bytes : List ℕ) → image ≡ Some bytes → last ≡ bytes
 
@@ -49,8 +49,8 @@ first_affected kept image =
     affected touches step_of kept.settings.rate (held kept.keys) kept.last_image image
     (kept_start kept) kept.reach
 
--- a new image of the lines keeps the run before the first affected step; if the lines have no
--- image, it keeps all of the run
+-- a new image keeps the run before the first affected step; if the lines have no image, they keep
+-- the whole run
 pub record FollowsImage (image : Option (List ℕ)) (old new : KeptRun) : Type 0 where
   pub last_image : new.last_image ≡ unwrap_or image old.last_image
   pub with_image : OnSome image (first_affected old new.last_image ≤ new.reach)
@@ -61,9 +61,9 @@ pub record FollowsEvent (step : ℕ) (old new : KeptRun) : Type 0 where
   pub last_image : new.last_image ≡ old.last_image
   pub reach : min old.reach step ≤ new.reach
 
--- How a question about a step changes the reach and the number of steps made: neither falls, no
--- more steps are made than those from the last checkpoint that may be used, and the kept run
--- reaches the step if the question is answered.
+-- How a question about a step changes the reach and the number of executed steps. Neither number
+-- falls; only steps after the last usable checkpoint are executed; and the run reaches the step if
+-- the question is answered.
 pub record ReachesStep {A E : Type 0} (step : ℕ) (result : Result A E)
     (old new : KeptRun) : Type 0 where
   pub kept : old.reach ≤ new.reach
@@ -72,7 +72,13 @@ pub record ReachesStep {A E : Type 0} (step : ℕ) (result : Result A E)
   pub steps : OnOk result (new.ran
       ≤ old.ran + (step - old.settings.spacing * (min old.reach step / old.settings.spacing)))
 
--- neither the reach nor the number of steps made changes
+-- neither the reach nor the number of executed steps falls, and the last image stays
+pub record RunsOn (old new : KeptRun) : Type 0 where
+  pub last_image : new.last_image ≡ old.last_image
+  pub reach : old.reach ≤ new.reach
+  pub ran : old.ran ≤ new.ran
+
+-- neither the reach nor the number of executed steps changes
 pub record StaysPut (old new : KeptRun) : Type 0 where
   pub same_reach : new.reach ≡ old.reach
   pub same_ran : new.ran ≡ old.ran
@@ -82,6 +88,6 @@ abbrev pub Reuses : {A E : Type 0} → Option ℕ → Result A E → KeptRun →
 Reuses (Some step) result old new = ReachesStep step result old new
 Reuses None result old new = StaysPut old new
 
--- a question that is refused for another reason than memory changes neither number
+-- a refused question changes neither number, unless memory ran out
 abbrev pub StaysIfRefused : {A : Type 0} → Result A Refusal → KeptRun → KeptRun → Type 0
 StaysIfRefused result old new = IfErr result (λ e. e ≢ AnswerMemory → StaysPut old new)

@@ -1,4 +1,4 @@
--- The key events of a file, line by line, in the form of a script (chosen by this project).
+-- The key events of a file, each line read as a command of a script (chosen by this project).
 use Rattle.std.specs.Prelude.{◌≡◌, ℕ, ◌+◌, List, [], ◌∷◌, Option, Some, None, Result, Ok, Err}
 use Rattle.chip_files.specs.KeyLines.{key_commands}
 use Rattle.chip_session.specs.Session.{Text, Session, edited}
@@ -25,28 +25,28 @@ command_refusal session (Ok (ask question)) = None
 unfoldable pub refusal_to : Session → Text → Option Text
 refusal_to session line = command_refusal session (command_of line)
 
--- the refusal of a line, with its number, or otherwise the refusal of a later line
+-- the refusal of a line, with the line's number, or otherwise the refusal of a later line
 abbrev pub refused_or_later : Option Text → ℕ → Option (ℕ × Text) → Option (ℕ × Text)
 refused_or_later (Some code) number later = Some (number, code)
 refused_or_later None number later = later
 
--- the first refused line of a script, with its code; the script's first line has the given number
+-- the first refused line of a script, with its code; `number` is the number of the script's first line
 abbrev pub first_refusal : Session → ℕ → List Text → Option (ℕ × Text)
 first_refusal session number [] = None
 first_refusal session number (line ∷ script) =
     refused_or_later (refusal_to session line) number
     (first_refusal (after session line) (number + 1) script)
 
--- the number and the code of the first refused line of a file, if there is one
+-- the number and the code of a file's first refused line, if there is one
 unfoldable pub key_fault : Session → List ℕ → Option (ℕ × Text)
 key_fault session file = first_refusal session 1 (key_commands file)
 
--- the session after the key events of a file
+-- the session after the lines of a key file
 unfoldable pub session_under : Session → List ℕ → Session
 session_under session file = session_after session (key_commands file)
 
--- why the key events of a file can't be made: its first refused line, or a lack of memory, which
--- may come before that line
+-- why the key events of a file can't be added: its first refused line, or out of memory, which may
+-- happen before that line
 abbrev pub IsKeyFault : Option (ℕ × Text) → KeyFileError → Type 0
 IsKeyFault fault (Line number code) = fault ≡ Some (number, code.now)
 IsKeyFault fault OutOfMemory = Unit {0}

@@ -1,11 +1,11 @@
--- The lines of a script that a newline has ended (chosen by this project). A script is split into
--- lines in the same way as a source.
+-- The complete lines of a script, each of which ends with a newline (chosen by this project). A
+-- script is split into lines in the same way as a source.
 use Rattle.std.specs.Prelude.{ℕ, List, [], ◌∷◌, map}
 use Rattle.std.specs.List.{slice_split}
 use Rattle.std.specs.Str.Lines.{strip_carriage_return}
 use Rattle.chip_asm.specs.Lines.{is_newline}
 
--- all parts but the last
+-- all parts except the last
 abbrev pub all_but_last : List (List ℕ) → List (List ℕ)
 all_but_last [] = []
 all_but_last (part ∷ []) = []
@@ -16,7 +16,7 @@ last_part [] = []
 last_part (part ∷ []) = part
 last_part (part ∷ next ∷ parts) = last_part (next ∷ parts)
 
--- the complete lines, each of which ends with a newline
+-- the complete lines, without their line endings
 unfoldable pub complete_lines : List ℕ → List (List ℕ)
 complete_lines bytes = map strip_carriage_return (all_but_last (slice_split is_newline bytes))
 

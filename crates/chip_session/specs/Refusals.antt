@@ -7,7 +7,7 @@ use Rattle.chip_replay.specs.declared.keys.KeyFault.TheVariants as key
 use Rattle.chip_session.specs.declared.refusal.Refusal.{Refusal}
 use Rattle.chip_session.specs.declared.refusal.Refusal.TheVariants as refusal
 
--- the code of a refused edit of a line; the program never writes N10 or Q4
+-- the code of a refused edit of a line; the program never prints N10 or Q4
 abbrev pub source_code : SourceRefusal → List ℕ
 source_code source.NoSuchLine = codes "N1"
 source_code source.TextTooLong = codes "N2"
@@ -33,7 +33,7 @@ refusal_code refusal.StepPastLast = codes "Q2"
 refusal_code refusal.AddressPastEnd = codes "Q3"
 refusal_code refusal.AnswerMemory = codes "Q4"
 
--- whether a refusal says that memory ran out
+-- whether a refusal is due to a lack of memory
 abbrev pub is_for_memory : Refusal → Bool
 is_for_memory (refusal.Source source.OutOfMemory) = true
 is_for_memory (refusal.Keys key.OutOfMemory) = true

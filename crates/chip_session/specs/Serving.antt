@@ -1,4 +1,4 @@
--- The bytes that a call of `serve` reads and writes, for each way in which it ends (chosen by this
+-- The bytes that a call of `serve` reads and writes, for each way it can end (chosen by this
 -- project).
 use Rattle.std.specs.Prelude.{◌≡◌, ◌⊎◌, ℕ, ◌<◌, ◌≤◌, List, [], ◌++◌, length, take, Option, Some, None, IfSome, Result, Ok, Err}
 use Rattle.chip_session.specs.declared.limits.TheConstants.{SCRIPT_BYTES, SCRIPT_LINES}
@@ -12,17 +12,16 @@ use Rattle.chip_session.specs.declared.server.ServeError.{ServeError}
 use Rattle.chip_session.specs.declared.server.ServeError.TheVariants as fault
 use Rattle.chip_lang.specs.Meter.{one_more}
 
--- the script stays within the bounds on its bytes and its lines
+-- the script exceeds neither limit, on bytes or on lines
 pub record WithinBounds (script : List ℕ) : Type 0 where
   pub bytes : length script ≤ SCRIPT_BYTES
   pub line_count : length (lines_of script) ≤ SCRIPT_LINES
 
--- the script passes one of the bounds
+-- the script exceeds a limit
 abbrev pub PassesBound : List ℕ → Type 0
 PassesBound script = (SCRIPT_BYTES < length script) ⊎ (SCRIPT_LINES < length (lines_of script))
 
--- the complete lines among the first bytes; both counts are limited to the most that a script may
--- have
+-- the complete lines among the first `SCRIPT_BYTES` bytes, at most `SCRIPT_LINES` of them
 abbrev pub lines_in_bounds : List ℕ → List (List ℕ)
 lines_in_bounds script = take SCRIPT_LINES (complete_lines (take SCRIPT_BYTES script))
 
@@ -30,29 +29,28 @@ lines_in_bounds script = take SCRIPT_LINES (complete_lines (take SCRIPT_BYTES sc
 abbrev pub BeginsWith : List ℕ → List ℕ → Type 0
 BeginsWith text front = (back : List ℕ) × (text ≡ front ++ back)
 
--- The bytes written when the reader has given `given` and has `rest` left.
+-- The bytes written after `given` was read from the reader and `rest` remains.
 abbrev pub Served : Result Unit ServeError → Session → List ℕ → List ℕ → List ℕ → Type 0
--- the reader has ended within the bounds: the whole transcript was written
+-- the script ended within the limits: the whole transcript was written
 Served (Ok _) start given rest written =
     (rest ≡ []) × WithinBounds given × (written ≡ transcript_of start (lines_of given))
 -- the source doesn't open: nothing was read or written
 Served (Err (fault.Source e)) start given rest written = (given ≡ []) × (written ≡ [])
--- the reader failed: the answers to all complete lines read were written
+-- the reader failed: the answers to all complete lines read so far were written
 Served (Err fault.ReaderFailed) start given rest written =
     WithinBounds given × (written ≡ transcript_of start (complete_lines given))
--- the writer failed: some front of the transcript was written
+-- the writer failed: a prefix of the transcript was written
 Served (Err fault.WriterFailed) start given rest written =
     BeginsWith (transcript_of start (lines_of (given ++ rest))) written
--- memory ran out: the answers to some number of the first complete lines were written
+-- memory ran out: the answers to the first `n` complete lines were written
 Served (Err fault.OutOfMemory) start given rest written =
     (n : ℕ) × (written ≡ transcript_of start (take n (complete_lines given)))
--- there is more input than the bounds allow: the answers to the complete lines within them were
--- written
+-- the script exceeds a limit: the answers to the complete lines within the limits were written
 Served (Err fault.TooMuchInput) start given rest written =
     PassesBound given × (written ≡ transcript_of start (lines_in_bounds given))
 
--- The reader had `all` before and has `left` now, the writer held `before` and holds `holds` now,
--- and P relates the bytes read, the bytes left to read and the bytes written.
+-- A call leaves `left` of the reader's bytes `all`, and turns the writer's contents from `before`
+-- into `holds`. P relates the bytes read, the bytes left to read and the bytes written.
 pub record Exchanged (all : List ℕ) (left : Option (List ℕ)) (before : List ℕ)
     (holds : Option (List ℕ)) (P : List ℕ → List ℕ → List ℕ → Type 0) : Type 0 where
   pub given : List ℕ
@@ -63,13 +61,13 @@ pub record Exchanged (all : List ℕ) (left : Option (List ℕ)) (before : List 
   pub wrote : holds ≡ Some (before ++ written)
   pub outcome : P given rest written
 
--- The bytes read and written, if the reader and the writer report their bytes.
+-- The bytes read and written, for a reader and a writer whose contents are known.
 abbrev pub Exchanges : Option (List ℕ) → Option (List ℕ) → Option (List ℕ) → Option (List ℕ)
     → (List ℕ → List ℕ → List ℕ → Type 0) → Type 0
 Exchanges had left held holds P =
     IfSome had (λ all. IfSome held (λ before. Exchanged all left before holds P))
 
--- the failures of the reader and of the writer that are counted after a call with this result
+-- the failure counts of the reader and of the writer after a call with this result
 abbrev pub reader_failures : Result Unit ServeError → ℕ → ℕ
 reader_failures (Err fault.ReaderFailed) failures = one_more failures
 reader_failures _ failures = failures
@@ -78,8 +76,8 @@ abbrev pub writer_failures : Result Unit ServeError → ℕ → ℕ
 writer_failures (Err fault.WriterFailed) failures = one_more failures
 writer_failures _ failures = failures
 
--- a source fault is the fault of the source itself, or a lack of memory; after any other result,
--- the source opens
+-- a source error is the fault of the source, or a lack of memory; after any other result, the
+-- source opens
 abbrev pub Opens : Option OpenError → Result Unit ServeError → Type 0
 Opens found (Err (fault.Source e)) = (e ≡ memory) ⊎ (found ≡ Some e)
 Opens found _ = found ≡ None

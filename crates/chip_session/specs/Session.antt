@@ -1,5 +1,5 @@
--- A session: the lines of the source and the key events as edited so far, and the settings (chosen
--- by this project).
+-- A session: the current lines of the source, the current key events, and the settings (chosen by
+-- this project).
 use Rattle.std.specs.Prelude.{◌≡◌, ◌⊎◌, IsOk, ℕ, ◌-◌, Bool, List, length, insert, remove, slice_set, Option, Some, None, Result, Ok, Err}
 use Rattle.std.specs.FinMap as map
 use Rattle.chip_asm.specs.Edits.{insert_refusal, replace_refusal, delete_refusal}
@@ -29,7 +29,7 @@ session_with lines keys settings = record { lines = lines; keys = keys; settings
 abbrev pub session_of : SessionSettings → List ℕ → Session
 session_of settings bytes = record { lines = lines_of bytes; keys = map.empty; settings = settings }
 
--- a change of one line, by the line's number from 1, or of one key event, by its step and key
+-- an edit of one line, given by its number from 1, or of one key event, given by its step and key
 pub data Edit : Type 0 where
   insert_line : ℕ → Text → Edit
   replace_line : ℕ → Text → Edit
@@ -52,7 +52,7 @@ with_events session (Some why) events = Err (Keys why)
 abbrev pub moment : ℕ → ℕ → Moment
 moment step key = record { key = key; step = step }
 
--- the session after a change, or the first refusal that applies
+-- the session after an edit, or the first refusal that applies
 abbrev pub edited : Session → Edit → Result Session Refusal
 edited session (insert_line number text) =
     with_lines session (insert_refusal (length session.lines) number text)
@@ -86,7 +86,7 @@ memory_refusal (replace_event step key down) = Keys no_event_memory
 memory_refusal (delete_event step key) = Keys no_event_memory
 memory_refusal edit = Source no_line_memory
 
--- why an edit is refused: the first refusal that applies, or a lack of memory if none does
+-- the reason why an edit is refused: the first refusal that applies, or a lack of memory if none does
 abbrev pub IsRefused : Session → Edit → Refusal → Type 0
 IsRefused session edit e =
     (edited session edit ≡ Err e)

@@ -1,4 +1,4 @@
--- A reader or a writer, with the number of its failures (chosen by this project).
+-- A reader or a writer, and the number of its failures (chosen by this project).
 use Rattle.std.specs.Prelude.{ℕ, ◌&&◌, Bool, true, List, length, nat_lt, nat_eq, Result, Ok, Err, is_err, if◌then◌else◌}
 use Rattle.chip_lang.specs.Meter.{one_more}
 
@@ -14,7 +14,7 @@ failures_after_flush went_well failures = if went_well then failures else one_mo
 abbrev pub failures_after_read : {E : Type 0} → ℕ → Result ℕ E → ℕ
 failures_after_read failures result = if is_err result then one_more failures else failures
 
--- a write fails if it returns an error of any kind, or takes none of one or more bytes
+-- a write fails if it returns an error of any kind, or accepts none of one or more bytes
 abbrev pub write_failed : {E : Type 0} → Result ℕ E → List ℕ → Bool
 write_failed (Ok count) bytes = nat_eq count 0 && nat_lt 0 (length bytes)
 write_failed (Err e) bytes = true

@@ -1,5 +1,4 @@
--- The tape that belongs to a seed (chosen by this project; the generator is that of the crate
--- rand_pcg).
+-- The tape of a seed (chosen by this project). The generator is defined by the crate rand_pcg.
 use Rattle.std.specs.Prelude.{ℕ, ◌%◌, List, map}
 use Rattle.rand_core.specs.Steps.{first_words}
 use Rattle.rand_core.specs.Pcg32Seed.{pcg32_seed}

@@ -1,8 +1,8 @@
--- Pieces of answers (chosen by this project).
+-- Parts of answers (chosen by this project).
 use Rattle.std.specs.Prelude.{ℕ, List, [], ◌∷◌, ◌++◌, codes}
 use Rattle.hex.specs.Hex.{encode_lower}
 
--- a line of bytes in lower case hexadecimal
+-- a line of bytes in lowercase hexadecimal
 abbrev pub hex_line : List ℕ → List ℕ
 hex_line bytes = encode_lower bytes ++ 10 ∷ []
 

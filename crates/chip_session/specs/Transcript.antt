@@ -41,19 +41,19 @@ abbrev pub edit_after : Session → Result Session Refusal → Session
 edit_after session (Ok next) = next
 edit_after session (Err why) = session
 
--- the session after a command; a refused command leaves the session as it was
+-- the session after a command; a refused command leaves the session unchanged
 abbrev pub command_after : Session → Result Command CommandFault → Session
 command_after session (Err fault) = session
 command_after session (Ok blank) = session
 command_after session (Ok (edit c)) = edit_after session (edited session c)
 command_after session (Ok (ask question)) = session
 
--- why an edit or a question is refused, if it is
+-- the reason why an edit or a question is refused, if it is
 abbrev pub refusal_of : {A : Type 0} → Result A Refusal → Option Refused
 refusal_of (Ok _) = None
 refusal_of (Err refusal) = Some (why.Command refusal)
 
--- why a command is refused, or why a line is not a command
+-- the reason why a command is refused, or why a line is not a command
 abbrev pub command_refusal : Session → Result Command CommandFault → Option Refused
 command_refusal session (Err fault) = Some (why.Line fault)
 command_refusal session (Ok blank) = None
@@ -66,7 +66,7 @@ reply session line = command_reply session (command_of line)
 unfoldable pub after : Session → Text → Session
 after session line = command_after session (command_of line)
 
--- if memory ran out at a line, the session is that before the line or that after it
+-- if memory runs out at a line, the session is as before the line or as after it
 abbrev pub IsBeforeOrAfter : Session → Text → Session → Type 0
 IsBeforeOrAfter session line next = (next ≡ session) ⊎ (next ≡ after session line)
 

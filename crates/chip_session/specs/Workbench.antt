@@ -6,8 +6,8 @@ use Rattle.chip_asm.specs.Program.{image_of}
 use Rattle.chip_session.specs.Session.{Session, Edit, insert_line, replace_line, delete_line, insert_event, replace_event, delete_event}
 use Rattle.chip_session.specs.Kept.{KeptRun, session_on, FollowsImage, FollowsEvent}
 
--- the session; the work done on the source; the last image that the lines had, or the empty one;
--- the step up to which the kept run is sound; and the number of steps made
+-- the session; the work done on the source; the last image that the source had, or the empty image;
+-- the step up to which the kept run is still valid; and the number of steps executed
 pub record Workbench : Type 0 where
   pub session : Session
   pub work : Meter

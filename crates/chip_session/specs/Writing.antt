@@ -1,4 +1,4 @@
--- How much of a text was written (chosen by this project).
+-- How much of a text was written, by a writer that counts its failures (chosen by this project).
 use Rattle.std.specs.Prelude.{◌≡◌, ℕ, List, Option}
 use Rattle.std.specs.Io.KnownBytes.{Appends}
 use Rattle.chip_lang.specs.Meter.{one_more}
@@ -6,12 +6,12 @@ use Rattle.chip_session.specs.Serving.{BeginsWith}
 use Rattle.chip_session.specs.Tally.{Tally}
 
 module _ {W : Type 0} (contents : W → Option (List ℕ)) (old new : Tally W) where
-  -- this text was written, and nothing else, and no write failed
+  -- exactly this text was written, and no write failed
   pub record Writes (text : List ℕ) : Type 0 where
     pub appended : Appends (contents old.inner) (contents new.inner) text
     pub no_failure : new.failures ≡ old.failures
 
-  -- a write failed, after some front of this text
+  -- a write failed after a prefix of this text was written
   pub record Breaks (text : List ℕ) : Type 0 where
     pub front : List ℕ
     pub begins : BeginsWith text front

@@ -11,10 +11,10 @@ use chip_lang::Fault;
 use chip_trace::push_decimal;
 use std::alloc::{AllocError, Global};
 
-// Room for a name of usual length, with its value and the number of its line.
+// Room for a symbol with a name of usual length.
 const SYMBOL_ROOM: usize = 24;
 
-/// Adds a line of bytes in lower case hexadecimal.
+/// Appends the bytes in lowercase hexadecimal, followed by a newline.
 pub(crate) fn push_hex_line(text: &mut Vec<u8>, bytes: &[u8]) -> Result<(), AllocError>
     ensures { OnOk result (text.new.items ≡ text.old.items ++ hex_line bytes.now) }
 {
@@ -23,7 +23,7 @@ pub(crate) fn push_hex_line(text: &mut Vec<u8>, bytes: &[u8]) -> Result<(), Allo
     Ok(())
 }
 
-/// Returns a line for each name, with its value and the number of its line. Fails only if memory
+/// Returns one line per symbol, with its name, its value and its line number. Fails only if memory
 /// runs out.
 pub fn symbols_answer(alloc: Global, source: &Source) -> Result<Vec<u8>, AllocError>
     ensures { IfOk result (λ text. text.items ≡ symbols_text (symbols_of source.now.lines)) }
@@ -51,7 +51,7 @@ fn push_symbol(text: &mut Vec<u8>, name: &[u8], symbol: Symbol) -> Result<(), Al
     Ok(())
 }
 
-/// Returns a line for each line that has a fault. Fails only if memory runs out.
+/// Returns one line for each faulty line of the source. Fails only if memory runs out.
 pub fn faults_answer(alloc: Global, source: &Source) -> Result<Vec<u8>, AllocError>
     ensures { IfOk result (λ text. text.items ≡ faults_text (faults_of source.now.lines)) }
 {
@@ -80,7 +80,7 @@ fn push_fault(text: &mut Vec<u8>, line: usize, fault: Fault) -> Result<(), Alloc
     Ok(())
 }
 
-/// Returns the listing, followed by a line with a full stop. Fails only if memory runs out.
+/// Returns the listing, followed by a line that contains only a full stop. Fails only if memory runs out.
 pub fn listing_answer(alloc: Global, source: &Source) -> Result<Vec<u8>, AllocError>
     ensures { IfOk result (λ text. text.items ≡ listing_text (listing_of source.now.lines)) }
 {

@@ -15,7 +15,7 @@ use chip_machine::limits::MEMORY_BYTES;
 use chip_replay::LAST_STEP;
 use std::alloc::{AllocError, Global};
 
-/// Whether the bytes asked for reach past the end of the memory.
+/// Whether the requested bytes reach past the end of memory.
 fn is_past_end(asked: StateQuestion) -> bool
     ensures { result ≡ asks_past_end asked }
 {
@@ -41,7 +41,7 @@ fn step_refusal(asked: StateQuestion, step: u32) -> Option<Refusal>
     }
 }
 
-/// Puts the answer to a question about the machine at a step of the image's run into `out`, which
+/// Writes the answer to a question about the machine at a step of the image's run into `out`, which
 /// must be empty.
 fn answer_at(
     source: &Source,
@@ -68,7 +68,7 @@ fn answer_at(
     }
 }
 
-/// Puts the answer to a question into `out`, which must be empty.
+/// Writes the answer to a question into `out`, which must be empty.
 pub(crate) fn answer(
     alloc: Global,
     source: &Source,
@@ -98,7 +98,7 @@ pub(crate) fn answer(
     answer_at(source, run, asked, step, out)
 }
 
-/// Puts the image in hexadecimal into `out`, which must be empty.
+/// Writes the image in hexadecimal into `out`, which must be empty.
 fn image_answer(source: &Source, out: &mut Vec<u8>) -> Result<(), Refusal>
     requires empty { out.old.items ≡ [] }
     ensures { IsAnswer (image_answer (image_of source.now.lines)) result out.new.items }

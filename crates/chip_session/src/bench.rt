@@ -14,7 +14,7 @@ ghost use Rattle.chip_session.specs.Session.{session_of, edited, IsRefused};
 ghost use Rattle.chip_session.specs.Edits.{edit_of};
 ghost use Rattle.chip_session.specs.Costs.{Costs};
 ghost use Rattle.chip_session.specs.Workbench.{run_of, Follows};
-ghost use Rattle.chip_session.specs.Kept.{ReachesStep, Reuses, StaysIfRefused};
+ghost use Rattle.chip_session.specs.Kept.{ReachesStep, Reuses, RunsOn, StaysIfRefused};
 
 use crate::ask::answer;
 use crate::edit::Edit;
@@ -32,7 +32,7 @@ use std::alloc::Global;
 use std::marker::Model;
 use std::mem::swap;
 
-/// A bench: a source as edited so far, and the run of the last image that the lines had.
+/// A bench: the current source, and the run of the last image that the source had.
 pub struct Bench {
     source: Source,
     run: ImageRun,
@@ -68,12 +68,12 @@ impl Model for Bench {
 }
 
 impl Bench {
-    /// Opens a session on a source. The source opens unless it has too many lines or a line that is
+    /// Opens a session on a source. A source opens unless it has too many lines or a line that is
     /// too long.
     ///
     /// # Errors
     ///
-    /// The fault of the first such line, or a lack of memory.
+    /// The fault of the first line that is too long or one too many, or out of memory.
     pub fn open(alloc: Global, source: &[u8], settings: Settings) -> Result<Self, OpenError>
         ensures ok { IfOk result (λ bench. (open_fault source.now ≡ None)
             × (bench.session ≡ session_of settings source.now)) }
@@ -101,7 +101,7 @@ impl Bench {
     ///
     /// # Errors
     ///
-    /// The first refusal that applies, or a lack of memory. The session is then as it was.
+    /// The first refusal that applies, or out of memory. The session is then unchanged.
     pub fn apply(&mut self, alloc: Global, edit: &Edit<'_>) -> Result<(), Refusal>
         ensures ok { OnOk result (edited self.old.session (edit_of edit.now)
             ≡ Ok self.new.session) }
@@ -140,7 +140,7 @@ impl Bench {
     ///
     /// # Errors
     ///
-    /// The first refusal that applies, or a lack of memory. `out` is then as it was.
+    /// The first refusal that applies, or out of memory. `out` is then unchanged.
     pub fn ask(
         &mut self,
         alloc: Global,
@@ -172,7 +172,7 @@ impl Bench {
     ///
     /// # Errors
     ///
-    /// The first refusal that applies, or a lack of memory.
+    /// The first refusal that applies, or out of memory.
     pub fn picture(
         &mut self,
         alloc: Global,
@@ -191,7 +191,7 @@ impl Bench {
         picture_at(alloc, &self.source, &mut self.run, form, step)
     }
 
-    /// Adds lines of a trace of the image's run to a text, like `Trace::push_lines`.
+    /// Appends lines of a trace of the image's run to a text, like `Trace::push_lines`.
     ///
     /// # Errors
     ///
@@ -208,11 +208,13 @@ impl Bench {
         ensures step_too_large { result ≡ Err AtError.StepTooLarge
             → LAST_STEP < max trace.old.next trace.old.to }
         ensures session { self.new.session ≡ self.old.session }
+        ensures work { self.new.work ≡ self.old.work }
+        ensures runs { RunsOn (run_of self.old) (run_of self.new) }
     {
         self.run.push_trace(trace, text, most)
     }
 
-    /// Returns the first difference between the lines of the image's run and those of another
+    /// Returns the first difference between the lines of the image's run and the lines of another
     /// trace.
     ///
     /// # Errors
@@ -230,11 +232,13 @@ impl Bench {
         ensures step_too_large { result ≡ Err AtError.StepTooLarge
             → LAST_STEP < max trace.old.next trace.old.to }
         ensures session { self.new.session ≡ self.old.session }
+        ensures work { self.new.work ≡ self.old.work }
+        ensures runs { RunsOn (run_of self.old) (run_of self.new) }
     {
         self.run.first_difference(alloc, trace, theirs)
     }
 
-    /// The source as edited so far.
+    /// The current source.
     pub fn source(&self) -> &Source
         ensures { result.now.lines ≡ self.now.session.lines }
     {
@@ -248,21 +252,21 @@ impl Bench {
         self.run.quirks()
     }
 
-    /// The lines read and encoded by opening the source and by all edits so far.
+    /// The number of lines read and encoded to open the source and to apply all edits since.
     pub fn work(&self) -> Meter
         ensures { result ≡ self.now.work }
     {
         self.source.work()
     }
 
-    /// The step up to which the kept run is sound.
+    /// The step up to which the kept run is still valid.
     pub fn reach(&self) -> u32
         ensures { result ≡ self.now.reach }
     {
         self.run.reach()
     }
 
-    /// The number of steps made so far. The count stops at its greatest value.
+    /// The number of steps executed so far. The count stops at the greatest `u64`.
     pub fn ran(&self) -> u64
         ensures { result ≡ self.now.ran }
     {

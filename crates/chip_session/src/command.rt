@@ -14,7 +14,7 @@ use crate::question::Question;
 /// A command of a script.
 #[derive(Clone, Copy)]
 pub enum Command<'a> {
-    /// A line that is empty or has only spaces.
+    /// A line that is empty or contains only spaces.
     Blank,
     Edit(Edit<'a>),
     Ask(Question),
@@ -23,14 +23,14 @@ pub enum Command<'a> {
 /// The reason why a line is not a command.
 #[derive(Clone, Copy, PartialEq, Eq)]
 pub enum CommandFault {
-    /// C1: there is no such command, or its operands are wrong.
+    /// C1: the command doesn't exist, or its operands are wrong.
     Unknown,
-    /// C2: the line has over `COMMAND_BYTES` bytes.
+    /// C2: the line is longer than `COMMAND_BYTES` bytes.
     TooLong,
 }
 
 impl CommandFault {
-    /// The code that follows `no` in the answer.
+    /// The code that follows `no` in the answer to the line.
     pub fn code(self) -> &'static [u8]
         ensures { result.now ≡ fault_code self }
     {
@@ -41,11 +41,11 @@ impl CommandFault {
     }
 }
 
-/// Returns the command that a line of a script spells.
+/// Returns the command on a line of a script.
 ///
 /// # Errors
 ///
-/// The line has over `COMMAND_BYTES` bytes, or it is not a command.
+/// The line is longer than `COMMAND_BYTES` bytes, or it is not a command.
 pub fn read_command(line: &[u8]) -> Result<Command<'_>, CommandFault>
     ensures { Reads result (command_of line.now) }
 {
@@ -59,7 +59,7 @@ pub fn read_command(line: &[u8]) -> Result<Command<'_>, CommandFault>
     command_named(word, skip_spaces(rest))
 }
 
-// The command for a first word and the text after that word and its spaces.
+// Returns the command for a first word, given the text after that word and its spaces.
 #[tactic(auto, unfolding(crate::specs::Commands::line_edits))]
 fn command_named<'a>(word: &[u8], operands: &'a [u8]) -> Result<Command<'a>, CommandFault>
     ensures { Reads result (worded word.now operands.now) }
@@ -91,7 +91,7 @@ fn command_named<'a>(word: &[u8], operands: &'a [u8]) -> Result<Command<'a>, Com
     key_edit(word, operands)
 }
 
-// An edit of the key events, or a question, for a first word.
+// Returns the edit of the key events, or the question, that a first word begins.
 #[tactic(auto, unfolding(crate::specs::Commands::key_edits))]
 fn key_edit<'a>(word: &[u8], operands: &'a [u8]) -> Result<Command<'a>, CommandFault>
     ensures { Reads result
@@ -122,7 +122,7 @@ fn key_edit<'a>(word: &[u8], operands: &'a [u8]) -> Result<Command<'a>, CommandF
     source_question(word, operands)
 }
 
-// A question about the source or the machine, for a first word.
+// Returns the question about the source or the machine that a first word begins.
 #[tactic(auto, unfolding(crate::specs::Commands::source_questions))]
 fn source_question<'a>(word: &[u8], operands: &'a [u8]) -> Result<Command<'a>, CommandFault>
     ensures { Reads result
@@ -153,7 +153,7 @@ fn without_words<'a>(operands: &'a [u8], question: Question) -> Result<Command<'
     }
 }
 
-// A question about the machine, for a first word.
+// Returns the question about the machine that a first word begins.
 #[tactic(auto, unfolding(crate::specs::Commands::machine_questions))]
 fn machine_question<'a>(word: &[u8], operands: &'a [u8]) -> Result<Command<'a>, CommandFault>
     ensures { Reads result (command_in machine_questions word.now operands.now) }
@@ -189,7 +189,7 @@ fn machine_question<'a>(word: &[u8], operands: &'a [u8]) -> Result<Command<'a>, 
     Err(CommandFault::Unknown)
 }
 
-// The number at the start.
+// The number at the start of the operands.
 fn front_number(operands: &[u8]) -> Option<u32>
     ensures { result ≡ front_number operands.now }
 {
@@ -203,7 +203,7 @@ fn next_words(operands: &[u8]) -> &[u8]
     skip_spaces(after_word(operands))
 }
 
-// The text after the first word and the one space that follows it.
+// The text after the first word and the single space that follows it.
 fn after_word(operands: &[u8]) -> &[u8]
     ensures { result.now ≡ after_first is_space operands.now }
 {
@@ -240,7 +240,7 @@ fn three_numbers(operands: &[u8]) -> Option<(u32, (u32, u32))>
     Some((first, others))
 }
 
-// Whether a key is `down` or `up`.
+// Returns true for `down` and false for `up`.
 #[tactic(auto, unfolding(crate::specs::Commands::key_state))]
 fn key_state(operands: &[u8]) -> Option<bool>
     ensures { result ≡ key_state operands.now }
@@ -258,7 +258,7 @@ fn key_state(operands: &[u8]) -> Option<bool>
     }
 }
 
-// A step, a key, and whether it is down.
+// Returns a step, a key, and whether the key is down.
 #[tactic(auto, unfolding(crate::specs::Commands::key_event))]
 fn key_event(operands: &[u8]) -> Option<(u32, (u32, bool))>
     ensures { result ≡ key_event operands.now }
@@ -277,7 +277,7 @@ fn is_blank(text: &[u8]) -> bool
     skip_spaces(text).is_empty()
 }
 
-// The text before the first space, and the text after it.
+// Returns the text before the first space, and the text after that space.
 fn split_word(text: &[u8]) -> (&[u8], &[u8])
     ensures word { result.0.now ≡ before_first is_space text.now }
     ensures rest { result.1.now ≡ after_first is_space text.now }
@@ -323,7 +323,7 @@ pub fn number_of(word: &[u8]) -> Option<u32>
     }
 }
 
-// The number that one to `most` digits spell in a base.
+// Returns the number that a text of 1 to `most` digits spells in a base.
 fn numeral(digits: &[u8], base: u32, most: usize) -> Option<u32>
     requires base { base ≤ 36 }
     requires room { base ^ most ≤ 2 ^ 32 }
@@ -336,7 +336,7 @@ fn numeral(digits: &[u8], base: u32, most: usize) -> Option<u32>
     value_of(digits, base)
 }
 
-// The number that digits spell in a base, if all of them are digits of that base.
+// Returns the number that the digits spell in a base, if all of them are digits of that base.
 fn value_of(digits: &[u8], base: u32) -> Option<u32>
     requires some { 1 ≤ base }
     requires room { base ^ length digits.now ≤ 2 ^ 32 }
@@ -354,7 +354,7 @@ fn value_of(digits: &[u8], base: u32) -> Option<u32>
     Some(value)
 }
 
-// The value of a digit in any base up to 36, and 36 for a byte that is not a digit.
+// The value of a digit in any base up to 36; returns 36 for a byte that is not a digit.
 fn digit_value(byte: u8) -> u32
     ensures { result ≡ digit_value byte }
 {

@@ -7,7 +7,7 @@ ghost use Rattle.chip_session.specs.Tally.{failures_after_flush, failures_after_
 use std::io::{Read, Result, Write};
 use std::marker::Model;
 
-/// A reader or a writer, with the number of its calls that failed.
+/// A reader or a writer, and the number of its failed calls.
 #[derive(Drop)]
 pub struct Counted<T> {
     inner: T,
@@ -23,7 +23,7 @@ impl<T> Model for Counted<T> {
 }
 
 impl<T> Counted<T> {
-    /// Wraps a reader or writer; no failure is counted yet.
+    /// Wraps a reader or writer, with a failure count of 0.
     pub fn new(inner: T) -> Self
         ensures inner { result.inner ≡ inner }
         ensures failures { result.failures ≡ 0 }
@@ -38,7 +38,7 @@ impl<T> Counted<T> {
         &self.inner
     }
 
-    /// The number of calls that failed. The count stops at the greatest `u64`.
+    /// The number of failed calls. The count stops at the greatest `u64`.
     pub fn failures(&self) -> u64
         ensures { result ≡ self.now.failures }
     {
@@ -67,8 +67,8 @@ impl<R: Read> Read for Counted<R> {
 impl<W: Write> Write for Counted<W> {
     ghost contents = { λ c. W.contents c.inner };
 
-    /// Writes once to the inner writer. An error of any kind counts as a failure, and so does a
-    /// write that takes none of one or more bytes.
+    /// Writes once to the inner writer. An error of any kind counts as a failure. A write that
+    /// accepts none of one or more bytes also counts as one.
     fn write(&mut self, buf: &[u8]) -> Result<usize>
         ensures bound { WritesAtMost result buf.now }
         ensures bytes { WriteAppends (W.contents self.old.inner)

@@ -9,9 +9,9 @@ pub enum Edit<'a> {
     Replace { line: u32, text: &'a [u8] },
     /// Deletes that line.
     Delete { line: u32 },
-    /// Adds an event: from that step on, the key is down, or up.
+    /// Adds an event: the key goes down or up at that step.
     InsertKey { step: u32, key: u32, down: bool },
-    /// Changes the event of that step and key to down or up.
+    /// Replaces the state, down or up, in the event of that step and key.
     ReplaceKey { step: u32, key: u32, down: bool },
     /// Deletes the event of that step and key.
     DeleteKey { step: u32, key: u32 },

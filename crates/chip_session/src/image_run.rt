@@ -1,4 +1,4 @@
-//! The run of the last image that the lines had: its settings, its replay, and the image.
+//! The run of the last image that the source had: its settings, its replay, and the image.
 ghost use Rattle.std.specs.Prelude.{◌≡◌, ◌≤◌, ◌<◌, ℕ, max, min, slice_index, length, vec_capacity, IfSome, IfOk, OnOk, OnErr, MatchOption, IsOkUnless, Err, Ok, None, [], false, IsTrue, ◌+◌};
 ghost use Rattle.std.specs.FinMap as finmap;
 ghost use Rattle.std.specs.Option.{option_copied};
@@ -6,7 +6,7 @@ ghost use Rattle.chip_replay.specs.Image.{AgreeOutside};
 ghost use Rattle.chip_replay.specs.Keys.{insert_fault, edit_fault};
 ghost use Rattle.chip_session.specs.Session.{moment};
 ghost use Rattle.chip_session.specs.Answers.{asks_past_end, state_answer};
-ghost use Rattle.chip_session.specs.Kept.{empty_run, machine_after, FollowsImage, ReachesStep};
+ghost use Rattle.chip_session.specs.Kept.{empty_run, machine_after, FollowsImage, ReachesStep, RunsOn};
 ghost use Rattle.chip_session.specs.Pictures.{picture_by};
 ghost use Rattle.chip_session.specs.inner.InStep.{TakesEvents, RunsOnly};
 ghost use Rattle.chip_trace.specs.Difference.{IsComparison};
@@ -26,12 +26,12 @@ use std::alloc::{AllocError, Global};
 use std::marker::Model;
 use std::ops::Range;
 
-/// The run of the last image that the lines had, or of the empty image, under the session's
-/// settings and the key events as edited so far.
+/// The run of the last image that the source had, or of the empty image, under the session's
+/// settings and current key events.
 pub(crate) struct ImageRun {
     settings: Settings,
     replay: Replay<Machine>,
-    /// The last image, in a buffer with room for any image.
+    /// The last image, in a buffer that is large enough for any image.
     last_image: Vec<u8>,
 }
 
@@ -63,10 +63,10 @@ impl Model for ImageRun {
         (vec_capacity r.last_image) };
 }
 
-/// The number of bytes of two images that are compared at once.
+/// The number of bytes that are compared at once.
 const BLOCK: usize = 256;
 
-/// Whether two images agree in a block.
+/// Whether two images agree in the block that begins at `start`.
 fn is_same_block(old: &[u8], new: &[u8], start: usize) -> bool
     requires old_is_there { start + BLOCK ≤ length old.now }
     requires new_is_there { start + BLOCK ≤ length new.now }
@@ -80,8 +80,8 @@ fn is_same_block(old: &[u8], new: &[u8], start: usize) -> bool
     same
 }
 
-/// Returns places outside which two images agree, or `None` if the images are the same. If the
-/// written places are known and both images have the same length, only those places are compared.
+/// Returns a range outside which two images agree, or `None` if the images are the same. If the
+/// written range is known and both images have the same length, only that range is compared.
 fn changed_places(written: Option<Range<usize>>, old: &[u8], new: &[u8]) -> Option<Range<usize>>
     requires { IfSome written (λ places. AgreeOutside places.start places.end old.now new.now) }
     ensures places { MatchOption result (old.now ≡ new.now)
@@ -94,8 +94,8 @@ fn changed_places(written: Option<Range<usize>>, old: &[u8], new: &[u8]) -> Opti
     }
 }
 
-/// Returns places outside which two images agree, or `None` if they are the same. The images have
-/// the same length and agree outside the given places.
+/// Returns a range outside which two images agree, or `None` if the images are the same. The images
+/// have the same length and agree outside the given range.
 fn changed_part(places: Range<usize>, old: &[u8], new: &[u8]) -> Option<Range<usize>>
     requires lengths { length old.now ≡ length new.now }
     requires alike { AgreeOutside places.start places.end old.now new.now }
@@ -112,8 +112,8 @@ fn changed_part(places: Range<usize>, old: &[u8], new: &[u8]) -> Option<Range<us
     }
 }
 
-/// Returns places outside which two images agree, or `None` if they are the same. Nothing is known
-/// about the images.
+/// Returns a range outside which two images agree, or `None` if the images are the same. The images
+/// may differ anywhere.
 fn changed_blocks(old: &[u8], new: &[u8]) -> Option<Range<usize>>
     ensures places { MatchOption result (old.now ≡ new.now)
         (λ places. AgreeOutside places.start places.end old.now new.now) }
@@ -135,7 +135,7 @@ fn changed_blocks(old: &[u8], new: &[u8]) -> Option<Range<usize>>
     if end == 0 { None } else { Some(first..end) }
 }
 
-/// Replaces an old image by a new one that has the same bytes before the place `first`.
+/// Replaces an old image by a new one that has the same bytes before index `first`.
 #[tactic(auto, using(crate::proofs::SameParts::renewed))]
 fn copy_from(first: usize, old: &mut Vec<u8>, new: &[u8])
     requires start { first ≤ min (length old.old.items) (length new.now) }
@@ -145,7 +145,7 @@ fn copy_from(first: usize, old: &mut Vec<u8>, new: &[u8])
     ensures room { vec_capacity old.old ≤ vec_capacity old.new }
 {
     old.truncate(first);
-    // The old image has room for any image, so this can't fail.
+    // The buffer of the old image is large enough for any image, so this call can't fail.
     let _ = old.extend_from_slice(&new[first..]);
 }
 
@@ -172,8 +172,8 @@ impl ImageRun {
         })
     }
 
-    /// Replaces the last image by the image of the lines. If the lines have no image, everything
-    /// stays. If the written places are known, the new image agrees with the last one outside them.
+    /// Replaces the last image by the given image; `None` changes nothing. If `written` is given,
+    /// the new image agrees with the last one outside that range.
     pub(crate) fn follow(&mut self, written: Option<Range<usize>>, image: Option<&[u8]>)
         requires fits { IfSome image (λ bytes. length bytes.now ≤ IMAGE_BYTES) }
         requires alike { IfSome written (λ places. IfSome (option_copied image)
@@ -205,7 +205,7 @@ impl ImageRun {
         self.replay.insert_key(step, key, down)
     }
 
-    /// Changes a key event to down or up, like `Replay::replace_key`.
+    /// Changes the state of a key event to down or up, like `Replay::replace_key`.
     pub(crate) fn replace_key(&mut self, step: u32, key: u32, down: bool) -> Result<(), KeyFault>
         ensures fault { MatchOption (edit_fault self.old.keys step key)
             (result ≡ Ok tt) (λ fault. result ≡ Err fault) }
@@ -227,7 +227,7 @@ impl ImageRun {
         self.replay.delete_key(step, key)
     }
 
-    /// Puts the answer to a question about the machine at a step into an empty text.
+    /// Writes the answer to a question about the machine at a step into an empty text.
     ///
     /// # Errors
     ///
@@ -275,7 +275,7 @@ impl ImageRun {
         }
     }
 
-    /// Adds lines of a trace of the run to a text, like `Trace::push_lines`.
+    /// Appends lines of a trace of the run to a text, like `Trace::push_lines`.
     ///
     /// # Errors
     ///
@@ -291,11 +291,12 @@ impl ImageRun {
         ensures step_too_large { result ≡ Err AtError.StepTooLarge
             → LAST_STEP < max trace.old.next trace.old.to }
         ensures runs { RunsOnly self.old self.new }
+        ensures on { RunsOn self.old self.new }
     {
         trace.push_lines(&mut self.replay, text, most)
     }
 
-    /// Returns the first difference between the lines of the run and those of another trace.
+    /// Returns the first difference between the lines of the run and the lines of another trace.
     ///
     /// # Errors
     ///
@@ -311,6 +312,7 @@ impl ImageRun {
         ensures step_too_large { result ≡ Err AtError.StepTooLarge
             → LAST_STEP < max trace.old.next trace.old.to }
         ensures runs { RunsOnly self.old self.new }
+        ensures on { RunsOn self.old self.new }
     {
         first_difference(alloc, &mut self.replay, trace, theirs)
     }
@@ -322,14 +324,14 @@ impl ImageRun {
         self.settings.quirks()
     }
 
-    /// The step up to which the run is sound.
+    /// The step up to which the run is still valid.
     pub(crate) fn reach(&self) -> u32
         ensures { result ≡ self.now.reach }
     {
         self.replay.reach()
     }
 
-    /// The number of steps made so far. The count stops at its greatest value.
+    /// The number of steps executed so far. The count stops at the greatest `u64`.
     pub(crate) fn ran(&self) -> u64
         ensures { result ≡ self.now.ran }
     {

@@ -12,10 +12,10 @@ use crate::refusal::Refusal;
 use chip_files::{first_line, key_command};
 use std::alloc::{AllocError, Global};
 
-/// The reason why the key events of a file can't be made.
+/// The reason why the key events of a file can't be added.
 #[derive(Clone, Copy)]
 pub enum KeyFileError {
-    /// The line with that number, counted from 1, is refused with that code.
+    /// The line with this number, counted from 1, is refused with this code.
     Line(usize, &'static [u8]),
     OutOfMemory,
 }
@@ -28,13 +28,13 @@ impl From<AllocError> for KeyFileError {
     }
 }
 
-/// Makes the key events of a file, one after another. A line `S K down` or `S K up` does the same
-/// as the command `kins S K down` or `kins S K up` of a script, but K may also be a letter A to F.
-/// A semicolon begins a comment, and a line may be blank.
+/// Adds the key events of a file in order. A line `S K down` or `S K up` has the effect of the
+/// script's command `kins S K down` or `kins S K up`, but K may also be a letter A to F. A
+/// semicolon begins a comment, and a line may be blank.
 ///
 /// # Errors
 ///
-/// The first refused line, or a lack of memory. The events of the lines before it are made.
+/// The first refused line, or out of memory. The events of the lines before the refused line are added.
 pub fn insert_keys(alloc: Global, bench: &mut Bench, file: &[u8]) -> Result<(), KeyFileError>
     ensures none { OnOk result (key_fault bench.old.session file.now ≡ None) }
     ensures session { OnOk result (bench.new.session ≡ session_under bench.old.session file.now) }
@@ -53,7 +53,7 @@ pub fn insert_keys(alloc: Global, bench: &mut Bench, file: &[u8]) -> Result<(), 
     Ok(())
 }
 
-// Makes the event of a line, or returns the code of its refusal.
+// Adds the event of a line, or returns the code of the line's refusal.
 fn insert_key(
     alloc: Global,
     bench: &mut Bench,
@@ -68,7 +68,7 @@ fn insert_key(
     make_edit(alloc, bench, &command)
 }
 
-// Carries out a line of a script that asks no question, or returns the code of its refusal.
+// Carries out a line of a script and ignores questions. Returns the code of the refusal if the line is refused.
 #[tactic(auto, unfolding(crate::specs::KeyFile::refusal_to, crate::specs::Transcript::after))]
 fn make_edit(
     alloc: Global,

@@ -1,4 +1,4 @@
-//! Laws of the session.
+//! Facts about the session.
 
 ghost use Rattle.std.specs.Prelude.{◌≡◌};
 ghost use Rattle.chip_lang.specs.declared.limits.TheConstants.{IMAGE_BYTES, IMAGE_START, MEMORY_BYTES, NAME_BYTES, OPEN_PARENTHESES};
@@ -7,7 +7,7 @@ ghost use Rattle.chip_machine.specs.declared.limits.TheConstants.{FLAGS, FRAMES,
 ghost use Rattle.chip_replay.specs.declared.limits.TheConstants.{LAST_STEP, LEAST_SPACING, MOST_EVENTS, MOST_RATE, MOST_SPACING};
 ghost use Rattle.chip_session.specs.declared.limits.TheConstants.{COMMAND_BYTES, SCRIPT_BYTES, SCRIPT_LINES};
 
-/// The numbers behind the names of limits that the definitions of a session use.
+/// The values of the limits that the definitions of a session refer to by name.
 pub fn limits()
     ensures lines { MOST_LINES ≡ 4000 }
     ensures line { LINE_BYTES ≡ 200 }

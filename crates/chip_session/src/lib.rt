@@ -1,4 +1,4 @@
-//! A session over a source and its machine: edits, questions, and a script of both.
+//! A session over a source and its machine: edits, questions, and scripts that contain both.
 #![tactic(auto)]
 
 mod answer;

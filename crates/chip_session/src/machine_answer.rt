@@ -14,16 +14,16 @@ use chip_machine::{Machine, Stop};
 use chip_trace::{byte_digits, push_decimal, push_spaced_bytes, row_bytes, word_digits};
 use std::alloc::AllocError;
 
-// Room for the answer about a machine's registers with a few open calls.
+// Room for the registers of a machine whose call stack is short.
 const REGISTERS_ROOM: usize = 256;
 
-// The length of the line of a row: its number and 32 digits.
+// The length of a row's line: two digits, a space, 32 digits and a newline.
 const ROW_LEN: usize = 36;
 
-// Room for 64 rows of the screen.
+// Room for the 64 rows of the screen, its size and the last line.
 const SCREEN_ROOM: usize = 64 * ROW_LEN + 16;
 
-/// Adds the answer to a question about a machine's state to a text.
+/// Appends the answer to a question about a machine's state to a text.
 pub(crate) fn push_state(
     answer: &mut Vec<u8>,
     machine: &Machine,
@@ -44,7 +44,7 @@ pub(crate) fn push_state(
     }
 }
 
-/// Adds the registers, timers, flags and open calls of a machine, in three lines.
+/// Appends the registers, timers, flags and call stack of a machine, in three lines.
 #[tactic(auto, unfolding(crate::specs::MachineAnswers::registers_of))]
 pub(crate) fn push_registers(answer: &mut Vec<u8>, machine: &Machine) -> Result<(), AllocError>
     ensures { OnOk result (answer.new.items ≡ answer.old.items ++ registers_of machine.now) }
@@ -117,7 +117,7 @@ fn size_name(high: bool) -> &'static [u8]
     if high { b"high" } else { b"low" }
 }
 
-/// The name of a size of the screen, between spaces.
+/// The name of the screen's size, between spaces.
 fn size_word(high: bool) -> &'static [u8]
     ensures { result.now ≡ 32 ∷ size_name high ++ 32 ∷ [] }
 {
@@ -136,7 +136,7 @@ fn push_state_name(answer: &mut Vec<u8>, stopped: Option<Stop>) -> Result<(), Al
     }
 }
 
-/// Adds `count` bytes from an address on, in hexadecimal.
+/// Appends `count` bytes from address `at`, in hexadecimal.
 #[tactic(auto, unfolding(crate::specs::MachineAnswers::memory_line))]
 pub(crate) fn push_memory(
     answer: &mut Vec<u8>,
@@ -156,8 +156,8 @@ pub(crate) fn push_memory(
     Ok(())
 }
 
-/// Adds a line for each of `count` words from an address on: its address, the word, and its source
-/// text.
+/// Appends a line for each of `count` words from address `at`: its address, the word, and its
+/// source text.
 #[tactic(auto, unfolding(crate::specs::MachineAnswers::disassembly_of))]
 pub(crate) fn push_disassembly(
     answer: &mut Vec<u8>,
@@ -175,7 +175,7 @@ pub(crate) fn push_disassembly(
     answer.extend_from_slice(b".\n")
 }
 
-/// Adds a line for the word at an address.
+/// Appends the line for the word at an address.
 fn push_word_line(answer: &mut Vec<u8>, machine: &Machine, at: u16) -> Result<(), AllocError>
     requires { at ≤ LAST_WORD }
     ensures { OnOk result (answer.new.items ≡ answer.old.items ++ word_line machine.now at) }
@@ -198,7 +198,7 @@ fn word_at(machine: &Machine, at: u16) -> u16
     u16::from(memory[start]) * 256 + u16::from(memory[start + 1])
 }
 
-/// Adds the size of the screen, and a line for each row with a lit pixel.
+/// Appends the size of the screen, and a line for each row that has a lit pixel.
 #[tactic(auto, unfolding(crate::specs::MachineAnswers::screen_of))]
 pub(crate) fn push_screen(answer: &mut Vec<u8>, machine: &Machine) -> Result<(), AllocError>
     ensures { OnOk result (answer.new.items ≡ answer.old.items ++ screen_of machine.now) }
@@ -235,9 +235,8 @@ fn push_row_line(answer: &mut Vec<u8>, machine: &Machine, row: usize) -> Result<
     Ok(())
 }
 
-/// Writes the line of a row over spaces: its number in two digits, a space, and its pixels in
-/// hexadecimal. The line is written in place, because copying bytes that were just written
-/// elsewhere is slow.
+/// Writes a row over spaces: its number in two digits, a space, and its pixels in hexadecimal. The
+/// row is written in place because it is slow to write the bytes elsewhere and then copy them.
 fn write_row(row: u8, points: &[u8], line: &mut [u8])
     requires row { row < 64 }
     requires points { length points.now ≡ 16 }

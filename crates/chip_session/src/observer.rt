@@ -1,15 +1,15 @@
-//! The observer of a session, which follows it beside the transcript.
+//! The observer of a session, which is notified while the transcript is written.
 
 use crate::bench::Bench;
 use crate::refusal::Refused;
 
-/// An observer of a session, such as the terminal at which a user types the script. Nothing that is
-/// read, written or kept depends on what an observer does.
+/// An observer of a session, such as the terminal on which a user types the script. An observer
+/// never affects the data that the session reads, writes or keeps.
 pub trait Observer {
     /// The source has opened.
     fn opened(&mut self, bench: &Bench);
 
-    /// The session waits for the next line of the script, and no byte of that line is there yet.
+    /// The session waits for the next line of the script, and has read no byte of that line yet.
     fn awaits(&mut self);
 
     /// The command of a line was refused, and its answer has been written.

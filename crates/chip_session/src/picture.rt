@@ -17,7 +17,7 @@ use chip_views::{
 };
 use std::alloc::{AllocError, Global};
 
-/// The format in which a picture of the screen is written.
+/// The format of a picture of the screen.
 #[derive(Clone, Copy, PartialEq, Eq)]
 pub enum PictureForm {
     /// Text, with two pixels per character.
@@ -26,9 +26,9 @@ pub enum PictureForm {
     Bitmap,
     /// A PNG file.
     Png,
-    /// A portable bitmap with this many pixels across and down for each pixel of the screen.
+    /// A portable bitmap in which each pixel of the screen is this many pixels wide and high.
     ScaledBitmap(u32),
-    /// A PNG file with this many pixels across and down for each pixel of the screen.
+    /// A PNG file in which each pixel of the screen is this many pixels wide and high.
     ScaledPng(u32),
 }
 

@@ -3,33 +3,33 @@
 /// A question about the source, or about the machine at a step.
 #[derive(Clone, Copy)]
 pub enum Question {
-    /// The image, in lower case hexadecimal.
+    /// The image, in lowercase hexadecimal.
     Image,
-    /// The names, with their values and the numbers of their lines.
+    /// The symbols: names with their values and line numbers.
     Symbols,
     /// The listing.
     Listing,
-    /// The faults, in the order of the lines.
+    /// The faults, in line order.
     Faults,
-    /// The registers, timers, flags and open calls at a step.
+    /// The registers, timers, flags and call stack at a step.
     Registers { step: u32 },
-    /// A number of bytes of the memory at a step, from an address on.
+    /// `count` bytes of the memory at a step, from address `at`.
     Memory { step: u32, at: u32, count: u32 },
-    /// The lit rows of the screen at a step.
+    /// The rows of the screen at a step that have a lit pixel.
     Screen { step: u32 },
-    /// A number of words of the memory at a step, from an address on, with their source texts.
+    /// `count` words of the memory at a step, from address `at`, with their source texts.
     Disassembly { step: u32, at: u32, count: u32 },
 }
 
 /// A question about a machine's state.
 #[derive(Clone, Copy)]
 pub enum StateQuestion {
-    /// The registers, timers, flags and open calls.
+    /// The registers, timers, flags and call stack.
     Registers,
-    /// A number of bytes of the memory, from an address on.
+    /// `count` bytes of the memory, from address `at`.
     Memory { at: u32, count: u32 },
-    /// The lit rows of the screen.
+    /// The rows of the screen that have a lit pixel.
     Screen,
-    /// A number of words of the memory, from an address on, with their source texts.
+    /// `count` words of the memory, from address `at`, with their source texts.
     Disassembly { at: u32, count: u32 },
 }

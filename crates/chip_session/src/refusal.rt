@@ -1,4 +1,4 @@
-//! Why an edit or a question is refused.
+//! The reasons why an edit or a question is refused.
 ghost use Rattle.std.specs.Prelude.{◌≡◌};
 ghost use Rattle.chip_session.specs.Refusals.{is_for_memory, key_code, refusal_code, source_code};
 ghost use Rattle.chip_session.specs.Transcript.{refused_code};
@@ -11,22 +11,22 @@ use thiserror::Error;
 /// The reason why an edit or a question was refused.
 #[derive(Clone, Copy, Debug, PartialEq, Eq, Error)]
 pub enum Refusal {
-    /// N1 to N4, N10: an edit of a line.
+    /// N1 to N4, N10: the edit of a line was refused.
     #[error("{0}")]
     Source(chip_asm::Refusal),
-    /// N5 to N9, N10: an edit of a key event.
+    /// N5 to N9, N10: the edit of a key event was refused.
     #[error("{0}")]
     Keys(KeyFault),
-    /// Q1: there is no image, because some line has a fault.
+    /// Q1: the source has no image, because a line has a fault.
     #[error("no image")]
     NoImage,
     /// Q2: the step is above `LAST_STEP`.
     #[error("past the last step")]
     StepPastLast,
-    /// Q3: the bytes reach past the end of the memory.
+    /// Q3: the requested bytes reach past the end of memory.
     #[error("past the end of the memory")]
     AddressPastEnd,
-    /// Q4: memory for the answer ran out.
+    /// Q4: memory ran out while the answer was built.
     #[error("out of memory")]
     AnswerMemory,
 }
@@ -46,7 +46,7 @@ impl Refusal {
         }
     }
 
-    /// Whether the refusal says that memory ran out.
+    /// Whether the refusal is due to a lack of memory.
     pub(crate) fn is_for_memory(self) -> bool
         ensures { result ≡ is_for_memory self }
     {
@@ -91,7 +91,7 @@ fn key_code(why: KeyFault) -> &'static [u8]
 pub enum Refused {
     /// The line is not a command.
     Line(CommandFault),
-    /// The edit or question of the line is refused.
+    /// The edit or question on the line is refused.
     Command(Refusal),
 }
 

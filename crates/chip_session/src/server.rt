@@ -1,4 +1,4 @@
-//! A script that is carried out while it is read.
+//! Carries out a script while it is being read.
 ghost use Rattle.std.specs.Prelude.{◌≡◌, ◌≢◌, ℕ, List, take, ◌+◌, ◌≤◌, ◌<◌, Ok, Err, Some, None, [], ◌++◌, length, OnOk, OnErr, IfOk, IfErr};
 ghost use Rattle.std.specs.Str.Lines.{strip_carriage_return};
 ghost use Rattle.chip_asm.specs.Lines.{open_fault};
@@ -24,11 +24,11 @@ use thiserror::Error;
 
 const PIECE_LEN: usize = 16384;
 
-// The number of bytes kept of a line: the most that a line may have, one for a carriage return
-// after it, and one that shows that the line is too long.
+// The number of bytes of a line that are kept: the maximum length of a line, one byte for a
+// carriage return, and one byte that shows that the line is too long.
 const KEPT_LEN: usize = COMMAND_BYTES + 2;
 
-/// The reason why a script wasn't carried out to its end.
+/// The reason why a script wasn't carried out to the end.
 #[derive(Clone, Copy, Debug, PartialEq, Eq, Error)]
 pub enum ServeError {
     /// The source doesn't open.
@@ -37,22 +37,22 @@ pub enum ServeError {
     /// E1: a read failed.
     #[error("input fault")]
     ReaderFailed,
-    /// E2: a write failed, or took none of one or more bytes.
+    /// E2: a write failed, or accepted none of one or more bytes.
     #[error("output fault")]
     WriterFailed,
     /// E3: memory ran out.
     #[error("out of memory")]
     OutOfMemory,
-    /// E4: there is more input than `SCRIPT_BYTES` bytes or `SCRIPT_LINES` lines.
+    /// E4: the script has more than `SCRIPT_BYTES` bytes or `SCRIPT_LINES` lines.
     #[error("too much input")]
     TooMuchInput,
 }
 
-/// The error that a write failed, or took none of one or more bytes.
+/// The error returned when a write fails, or accepts none of one or more bytes.
 #[derive(Clone, Copy)]
 pub struct WriteFailed;
 
-// The reason why the rest of a script is given up.
+// The reason why the rest of a script is abandoned.
 #[derive(Clone, Copy)]
 pub(crate) enum Stop {
     WriterFailed,
@@ -80,13 +80,13 @@ impl From<Stop> for ServeError {
     }
 }
 
-/// Opens the source, and then carries out the script that the reader gives. The answer to each line
-/// is written before the next line is taken.
+/// Opens the source, and then carries out the script from the reader. The answer to each line is
+/// written before the next line is carried out.
 ///
 /// # Errors
 ///
-/// The source doesn't open, and nothing was read or written; the reader or the writer failed, and
-/// the call isn't tried again; memory ran out; or the script has more than `SCRIPT_BYTES` bytes or
+/// The source doesn't open, and nothing was read or written. The reader or the writer failed, and
+/// the call wasn't retried. Memory ran out. The script has more than `SCRIPT_BYTES` bytes or
 /// `SCRIPT_LINES` lines.
 pub fn serve<R: Read, W: Write>(
     alloc: Global,
@@ -95,13 +95,13 @@ pub fn serve<R: Read, W: Write>(
     reader: &mut Counted<R>,
     writer: &mut Counted<W>,
 ) -> Result<(), ServeError>
-    // The transcript was written, completely if the result is `Ok`, and otherwise as far as
-    // `Served` says.
+    // If the result is `Ok`, the whole transcript was written. Otherwise `Served` states which part
+    // was written.
     ensures transcript { Exchanges (R.remaining reader.old.inner) (R.remaining reader.new.inner)
         (W.contents writer.old.inner) (W.contents writer.new.inner)
         (Served result (session_of settings source.now)) }
     ensures source { Opens (open_fault source.now) result }
-    // If the source doesn't open, neither the reader nor the writer was touched.
+    // If the source doesn't open, neither the reader nor the writer was used.
     ensures untouched { UnlessOpened result ((reader.new ≡ reader.old)
         × (writer.new ≡ writer.old)) }
     ensures reader_failed { reader.new.failures ≡ reader_failures result reader.old.failures }
@@ -110,12 +110,12 @@ pub fn serve<R: Read, W: Write>(
     serve_observed(alloc, source, settings, reader, writer, &mut Nobody)
 }
 
-/// Does the same as `serve`, and reports to the observer how the session goes. What is read,
-/// written and returned doesn't depend on the observer.
+/// Does the same as `serve`, and notifies the observer of the session's progress. The observer
+/// never affects the bytes that are read or written, or the result.
 ///
 /// # Errors
 ///
-/// The errors of `serve`.
+/// The same errors as for `serve`.
 pub fn serve_observed<R: Read, W: Write, O: Observer>(
     alloc: Global,
     source: &[u8],
@@ -143,7 +143,7 @@ pub fn serve_observed<R: Read, W: Write, O: Observer>(
     }
 }
 
-// Carries out the script that the reader gives.
+// Carries out the script from the reader.
 fn converse<R: Read, W: Write, O: Observer>(
     alloc: Global,
     conversation: &mut Conversation,
@@ -177,11 +177,11 @@ fn converse<R: Read, W: Write, O: Observer>(
     }
 }
 
-// A session, and the start of the script's line that isn't complete yet.
+// A session, and the first bytes of the line of the script that isn't complete yet.
 #[derive(Drop)]
 struct Conversation {
     bench: Bench,
-    // the line's first bytes, up to the number that shows that it is too long
+    // at most the first `KEPT_LEN` bytes of that line
     line: Vec<u8>,
     answer: Vec<u8>,
     complete: u32,
@@ -204,14 +204,14 @@ impl Conversation {
         }
     }
 
-    // Reports that the session waits for the next line, if none of its bytes is there.
+    // Reports that the session waits for the next line, if no byte of that line has been read.
     fn tell_wait<O: Observer>(&self, observer: &mut O) {
         if self.line.is_empty() {
             observer.awaits();
         }
     }
 
-    // Takes the next bytes up to the bound on bytes; fails if there are more.
+    // Takes the next bytes until `SCRIPT_BYTES` is reached; fails if more bytes follow.
     fn take_piece<W: Write, O: Observer>(
         &mut self,
         alloc: Global,
@@ -234,7 +234,7 @@ impl Conversation {
         Err(Stop::TooMuchInput)
     }
 
-    // Takes bytes that are within the bound on bytes.
+    // Takes bytes that don't exceed `SCRIPT_BYTES`.
     fn take_lines<W: Write, O: Observer>(
         &mut self,
         alloc: Global,
@@ -255,8 +255,8 @@ impl Conversation {
         Ok(())
     }
 
-    // Takes the bytes up to and including the first newline, or all if there is none, and returns
-    // their number.
+    // Takes the bytes up to and including the first newline, or all bytes if there is no newline.
+    // Returns how many bytes it took.
     fn take_line<W: Write, O: Observer>(
         &mut self,
         alloc: Global,
@@ -287,7 +287,7 @@ impl Conversation {
         Ok(len + 1)
     }
 
-    // Keeps the next bytes of a line, unless it is too long already.
+    // Keeps the next bytes of a line, up to `KEPT_LEN` bytes in all.
     fn keep(&mut self, part: &[u8]) -> Result<(), AllocError>
         requires { self.old.taken + length part.now ≤ SCRIPT_BYTES }
         ensures line { OnOk result (length self.old.line.items ≤ KEPT_LEN
@@ -302,8 +302,8 @@ impl Conversation {
         Ok(())
     }
 
-    // Answers the line that a newline has just ended; `part` has its last bytes. A line that lies
-    // in one piece isn't copied.
+    // Answers the line that a newline has just ended; `part` contains the line's last bytes. A line
+    // that lies in one piece isn't copied.
     fn complete_line<W: Write, O: Observer>(
         &mut self,
         alloc: Global,
@@ -332,7 +332,7 @@ impl Conversation {
         self.answer_kept(alloc, writer, observer)
     }
 
-    // Answers a line that lies in one piece, when no bytes of a line are kept.
+    // Answers a line that lies in one piece, when no earlier bytes of it are kept.
     fn answer_whole<W: Write, O: Observer>(
         &mut self,
         alloc: Global,
@@ -366,7 +366,7 @@ impl Conversation {
         Ok(())
     }
 
-    // Answers the line whose bytes are all kept, and then clears them.
+    // Answers the line whose bytes are all kept, and then clears the kept bytes.
     fn answer_kept<W: Write, O: Observer>(
         &mut self,
         alloc: Global,
@@ -424,7 +424,7 @@ impl Conversation {
     }
 }
 
-// Carries out one line of a script, writes the answer to it, and reports a refusal to the observer.
+// Carries out one line of a script, writes its answer, and reports a refusal to the observer.
 fn say<W: Write, O: Observer>(
     alloc: Global,
     bench: &mut Bench,
@@ -446,7 +446,7 @@ fn say<W: Write, O: Observer>(
     Ok(())
 }
 
-// Writes all the bytes. Any error ends the writing, and so does a write that takes none.
+// Writes all the bytes. Stops at an error of any kind, or at a write that accepts no bytes.
 fn write_whole<W: Write>(writer: &mut Counted<W>, bytes: &[u8]) -> Result<(), Stop>
     ensures said { Says result (W.contents writer.old.inner)
         (W.contents writer.new.inner) bytes.now }
@@ -463,11 +463,11 @@ fn write_whole<W: Write>(writer: &mut Counted<W>, bytes: &[u8]) -> Result<(), St
     Ok(())
 }
 
-/// Writes all the bytes. Any error ends the writing, and so does a write that takes none.
+/// Writes all the bytes. Stops at an error of any kind, or at a write that accepts no bytes.
 ///
 /// # Errors
 ///
-/// A write failed, after some front of the bytes was written.
+/// A write failed; a prefix of the bytes, possibly empty, was written.
 pub fn write_all<W: Write>(writer: &mut Counted<W>, bytes: &[u8]) -> Result<(), WriteFailed>
     ensures ok { OnOk result (Writes W.contents writer.old writer.new bytes.now) }
     ensures err { OnErr result (Breaks W.contents writer.old writer.new bytes.now) }
@@ -478,12 +478,12 @@ pub fn write_all<W: Write>(writer: &mut Counted<W>, bytes: &[u8]) -> Result<(), 
     }
 }
 
-/// Replaces the contents of `answer` by the answer to one line of a script. Returns why the line is
-/// refused, or `None` if it isn't.
+/// Replaces the contents of `answer` by the answer to one line of a script. Returns the reason if
+/// the line is refused, and `None` otherwise.
 ///
 /// # Errors
 ///
-/// Out of memory. The session is then as after the line, or as before it.
+/// Out of memory. The session is then either as before the line or as after it.
 pub fn respond(
     alloc: Global,
     bench: &mut Bench,
@@ -521,7 +521,7 @@ pub fn respond(
     refuse_for(answer, Refused::Command(refusal))
 }
 
-// Appends the answer to a refused line, and returns why it is refused.
+// Appends the answer to a refused line, and returns the reason of the refusal.
 fn refuse_for(answer: &mut Vec<u8>, why: Refused) -> Result<Option<Refused>, AllocError>
     ensures answer { OnOk result (answer.new.items ≡ answer.old.items ++ refused (refused_code why)) }
     ensures why { IfOk result (λ given. given ≡ Some why) }
@@ -530,7 +530,7 @@ fn refuse_for(answer: &mut Vec<u8>, why: Refused) -> Result<Option<Refused>, All
     Ok(Some(why))
 }
 
-/// Appends the answer to a line of a script that is refused with this code.
+/// Appends the answer to a script's line that is refused with this code.
 ///
 /// # Errors
 ///
@@ -543,7 +543,7 @@ pub fn refuse(answer: &mut Vec<u8>, code: &[u8]) -> Result<(), AllocError>
     answer.extend_from_slice(b"\n")
 }
 
-// The first bytes of a line, up to the number that shows that it is too long.
+// The first `KEPT_LEN` bytes of a line, or the whole line if it is shorter.
 fn kept_part(line: &[u8]) -> &[u8]
     ensures { result.now ≡ take KEPT_LEN line.now }
 {

@@ -16,16 +16,16 @@ use thiserror::Error;
 /// The reason why settings aren't allowed.
 #[derive(Clone, Copy, Debug, PartialEq, Eq, Error)]
 pub enum SetError {
-    /// G1: the rate is not 1 to `MOST_RATE`.
+    /// G1: the rate is not between 1 and `MOST_RATE`.
     #[error("rate not 1 to {most}", most = MOST_RATE)]
     RateOutOfRange,
-    /// G2: the tape doesn't have 1 to `TAPE_BYTES` bytes.
+    /// G2: the tape is empty or longer than `TAPE_BYTES` bytes.
     #[error("tape not 1 to {most} bytes", most = TAPE_BYTES)]
     TapeLength,
     /// G3: memory for the tape ran out.
     #[error("out of memory")]
     OutOfMemory,
-    /// G4: the spacing of the checkpoints is not `LEAST_SPACING` to `MOST_SPACING`.
+    /// G4: the spacing of the checkpoints is not between `LEAST_SPACING` and `MOST_SPACING`.
     #[error("spacing not {least} to {most}", least = LEAST_SPACING, most = MOST_SPACING)]
     SpacingOutOfRange,
 }
@@ -38,9 +38,9 @@ impl From<AllocError> for SetError {
     }
 }
 
-/// The settings of a session: the number of steps per tick of the timers, the bytes used as random
-/// bytes, and the quirks of the machine. No answer depends on the other two: the number of steps
-/// between two checkpoints of the run, and how names are hashed.
+/// The settings of a session: the number of steps per tick of the timers, the tape of random bytes,
+/// and the quirks of the machine. Two further settings never affect an answer: the number of steps
+/// between two checkpoints of the run, and the seed that names are hashed with.
 #[derive(Drop)]
 pub struct Settings {
     rate: u32,
@@ -66,12 +66,12 @@ impl Model for Settings {
 }
 
 impl Settings {
-    /// Returns settings with `rate` steps per tick, 1 to `MOST_RATE`, and a tape of 1 to
-    /// `TAPE_BYTES` bytes, for a SUPER-CHIP 1.1 with the least spacing.
+    /// Returns settings with `rate` steps per tick, 1 to `MOST_RATE`, and a tape of 1 to `TAPE_BYTES`
+    /// bytes. The quirks are those of a SUPER-CHIP 1.1, and the spacing is the smallest one.
     ///
     /// # Errors
     ///
-    /// The first that applies: a rate out of range, a tape that is too short or too long, or a lack
+    /// The first error that applies: a rate out of range, a tape that is empty or too long, or out
     /// of memory.
     pub fn new(alloc: Global, rate: u32, tape: &[u8]) -> Result<Settings, SetError>
         ensures ok { IfOk result (λ settings. (settings_fault rate tape.now ≡ None)
@@ -106,12 +106,12 @@ impl Settings {
         Settings { quirks, ..self }
     }
 
-    /// Returns these settings with `spacing` steps between two checkpoints, `LEAST_SPACING` to
-    /// `MOST_SPACING`. Fewer steps make it cheaper to follow an edit, and more take less memory.
+    /// Returns these settings with `spacing` steps between two checkpoints, `LEAST_SPACING` to `MOST_SPACING`.
+    /// A smaller spacing makes questions after an edit cheaper, and a larger one takes less memory.
     ///
     /// # Errors
     ///
-    /// A spacing out of range; the settings are then not returned.
+    /// The spacing is out of range; the settings are then dropped.
     pub fn with_spacing(self, spacing: u32) -> Result<Settings, SetError>
         ensures { MatchOption (spacing_fault spacing)
             (result ≡ Ok (record self { spacing = spacing }))
@@ -123,8 +123,8 @@ impl Settings {
         Ok(Settings { spacing, ..self })
     }
 
-    /// Returns these settings with names hashed from a seed. If the seed is random at each start of
-    /// the program, no choice of names in a source makes an edit slow.
+    /// Returns these settings with names hashed from a seed. If each start of the program uses a
+    /// random seed, nobody can choose names in a source that make edits slow.
     pub fn with_name_seed(self, seed: u64) -> Settings
         ensures { result ≡ self }
     {
@@ -148,7 +148,7 @@ impl Settings {
         self.rate
     }
 
-    /// The bytes used as random bytes.
+    /// The tape: the bytes that the machine uses as random bytes.
     pub fn tape(&self) -> &[u8]
         ensures value { result.now ≡ self.now.tape }
         ensures some { 0 < length result.now }
@@ -173,7 +173,7 @@ impl Settings {
     }
 }
 
-// Returns why such settings aren't allowed, apart from a lack of memory.
+// Returns why these settings aren't allowed, apart from a lack of memory.
 fn fault_of(rate: u32, tape: &[u8]) -> Option<SetError>
     ensures { result ≡ settings_fault rate tape.now }
 {

@@ -9,8 +9,8 @@ use std::alloc::{AllocError, Global};
 
 const TAPE_LEN: usize = 256;
 
-/// Returns the tape of a seed: the lowest byte of each of the first 256 words of the generator
-/// `Lcg64Xsh32` that the seed makes.
+/// Returns the tape of a seed: the lowest byte of each of the first 256 words from the generator
+/// `Lcg64Xsh32` with that seed.
 ///
 /// # Errors
 ///

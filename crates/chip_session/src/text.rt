@@ -1,4 +1,4 @@
-//! Pieces of answers.
+//! Parts of answers.
 
 ghost use Rattle.std.specs.Prelude.{◌≡◌, ◌*◌, ◌++◌, length, OnOk};
 ghost use Rattle.std.specs.Fmt.{signed_decimal};
@@ -9,10 +9,10 @@ use chip_trace::{byte_digits, hex_digit, push_decimal, word_digits};
 use itoa::Buffer;
 use std::alloc::AllocError;
 
-/// The number of bytes that are turned into digits at once.
+/// The number of bytes whose digits are computed at once.
 const BLOCK_BYTES: usize = 32;
 
-/// Adds bytes in lower case hexadecimal.
+/// Appends bytes in lowercase hexadecimal.
 pub(crate) fn push_hex(out: &mut Vec<u8>, bytes: &[u8]) -> Result<(), AllocError>
     ensures { OnOk result (out.new.items ≡ out.old.items ++ encode_lower bytes.now) }
 {
@@ -28,7 +28,7 @@ pub(crate) fn push_hex(out: &mut Vec<u8>, bytes: &[u8]) -> Result<(), AllocError
     Ok(())
 }
 
-/// Writes bytes in lower case hexadecimal, filling `digits`.
+/// Fills `digits` with the bytes in lowercase hexadecimal.
 pub(crate) fn write_hex(bytes: &[u8], digits: &mut [u8])
     requires { length digits.old ≡ 2 * length bytes.now }
     ensures { digits.new ≡ encode_lower bytes.now }
@@ -45,8 +45,8 @@ pub(crate) fn write_hex(bytes: &[u8], digits: &mut [u8])
     }
 }
 
-/// Writes the bytes of one block in lower case hexadecimal. All digits are computed first and then
-/// placed, so that many are computed at once.
+/// Writes the bytes of one block in lowercase hexadecimal. All digits are computed before the first
+/// one is written, so that the compiler can compute many at once.
 #[inline(always)]
 fn write_block(bytes: &[u8], digits: &mut [u8])
     requires bytes { length bytes.now ≡ BLOCK_BYTES }
@@ -64,7 +64,7 @@ fn write_block(bytes: &[u8], digits: &mut [u8])
     }
 }
 
-/// Adds a number in decimal, with a sign if it is below 0.
+/// Appends a number in decimal, with a minus sign if it is negative.
 pub(crate) fn push_signed(out: &mut Vec<u8>, number: i32) -> Result<(), AllocError>
     ensures { OnOk result (out.new.items ≡ out.old.items ++ signed_decimal number) }
 {
@@ -75,7 +75,7 @@ pub(crate) fn push_signed(out: &mut Vec<u8>, number: i32) -> Result<(), AllocErr
     out.extend_from_slice(digits.format(number).as_bytes())
 }
 
-/// Adds numbers of 16 bits in hexadecimal, each after a space.
+/// Appends 16-bit numbers in hexadecimal, each after a space.
 pub(crate) fn push_spaced_words(out: &mut Vec<u8>, words: &[u16]) -> Result<(), AllocError>
     ensures { OnOk result (out.new.items ≡ out.old.items ++ spaced hex_word words.now) }
 {

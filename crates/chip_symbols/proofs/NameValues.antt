@@ -1,4 +1,4 @@
--- The value of a name in the map that a table of symbols means.
+-- The value of a name in the map that a table of symbols represents.
 use Rattle.std.proofs.Common.{◌≡◌, ℕ, ◌<◌, ℤ, Bool, true, false, cond, List, [], ◌∷◌, map, length, get_or, position, refl, ap, sym, ◌∙◌, arith, suc, zero, Option, None, Some, option_map}
 use Rattle.std.specs.Str.{bytes_eq}
 use Rattle.std.specs.Option.{option_eq}
@@ -30,7 +30,7 @@ pub value-of-name : (names : List (Name × Symbol)) (name : Name) → value_of_n
 unfolding values_of
 value-of-name names name = get-from_entries nat_list_cmp_total (map (λ e. (e.0, e.1.value)) names) name ∙ find-seen name names
 
--- the values by number are those of the names
+-- the values by number are the values of the names
 
 find-missing : (keys : List Name) (vs : List (Option ℤ)) (name : Name) → ((i : ℕ) → i < length keys → key_at keys i ≡ name → ⊥) → finite.find (slice_cmp nat_cmp) name (valued_in keys vs) ≡ None
 find-missing [] vs name none = refl

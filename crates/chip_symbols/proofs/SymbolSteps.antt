@@ -36,7 +36,7 @@ lookup-front : (names later : List (Name × Symbol)) (name : Name) → lookup_na
 lookup-front [] later name h = h
 lookup-front (x ∷ xs) later name h = ap (cond (bytes_eq name x.0) (Some x.1)) (lookup-front xs later name h)
 
--- one symbol more changes the value of its name alone
+-- one more symbol changes only the value of its name
 value-other : (names : List (Name × Symbol)) (e : Name × Symbol) (name : Name) → bytes_eq name e.0 ≡ false → value_among (names ++ e ∷ []) name ≡ value_among names name
 value-other names e name apart = ap (option_map (λ (s : Symbol). s.value)) (lookup-front names (e ∷ []) name (ap (λ b. cond b (Some e.1) None) apart))
 
@@ -58,7 +58,7 @@ seen keys e = (key_at keys e.id.number, e.symbol)
 pub symbols-push : (keys : List Name) (es : List Entry) (e : Entry) → symbols_in keys (es ++ e ∷ []) ≡ symbols_in keys es ++ seen keys e ∷ []
 symbols-push keys es e = map-append (seen keys) es (e ∷ [])
 
--- each symbol is the first of its name
+-- each symbol is the first symbol of its name
 abbrev AreFirst : List (Name × Symbol) → Type 0
 AreFirst ss = (place : ℕ) (x : Name × Symbol) → place < length ss → x ≡ get_or ss place x → lookup_name (take place ss) x.0 ≡ None
 
@@ -89,7 +89,7 @@ valued-set keys vs i v was now apart inside long all other own number h = by (ca
     by (inr differ) =
         get_or-set_other vs i number v None differ ∙ all number h ∙ other (key_at keys number) (apart-names (key_at keys number) (key_at keys i) (λ same. differ (apart.each number i h inside same)))
 
--- one definition more
+-- one more definition
 pub defined-more : (keys : List Name) (es : List Entry) (vs : List (Option ℤ)) (e : Entry) → AreApart keys → AreDefined keys es vs → e.id.number < length keys → lookup_name (symbols_in keys es) (key_at keys e.id.number) ≡ None
     → AreDefined keys (es ++ e ∷ []) (set vs e.id.number (Some e.symbol.value))
 defined-more keys es vs e apart a inside none =
@@ -104,7 +104,7 @@ defined-more keys es vs e apart a inside none =
           (λ name other. sym (value-other ss (seen keys e) name other)) (sym (value-own ss (seen keys e) none)));
     }
 
--- the last definition is taken back
+-- the last definition is removed
 pub defined-less : (keys : List Name) (es : List Entry) (vs : List (Option ℤ)) (e : Entry) → AreApart keys → AreDefined keys (es ++ e ∷ []) vs → AreDefined keys es (set vs e.id.number None)
 defined-less keys es vs e apart a =
     let ss : List (Name × Symbol) = symbols_in keys es in
@@ -138,14 +138,14 @@ absent-key keys name h i inside same =
     let yes : bytes_eq name (key_at keys i) ≡ true = (bytes_eq-Decides name (key_at keys i)).1 (sym same) in
     cc
 
--- symbols are of names among the keys
+-- each symbol belongs to a name among the keys
 lookup-missing : (keys : List Name) (es : List Entry) (name : Name) → All (λ (e : Entry). e.id.number < length keys) es → ((i : ℕ) → i < length keys → key_at keys i ≡ name → ⊥) → lookup_name (symbols_in keys es) name ≡ None
 lookup-missing keys [] name inside none = refl
 lookup-missing keys (e ∷ es) name inside none =
     let apart : bytes_eq name (key_at keys e.id.number) ≡ false = apart-names name (key_at keys e.id.number) (λ same. none e.id.number (inside zero e (omega arith)) (sym same)) in
     rw apart (lookup-missing keys es name (λ k d h. inside (suc k) d (omega (arith, h))) none)
 
--- the names of the keys that a set has
+-- the names of the keys in a set
 
 abbrev pub names_of : List (Vec ℕ) → List Name
 names_of keys = map (λ (k : Vec ℕ). k.items) keys
@@ -163,7 +163,7 @@ found-kept keys name i h = found-key (names_of keys) name i (key-position keys n
 pub absent-kept : (keys : List (Vec ℕ)) (name : Name) → position (λ (k : Vec ℕ). bytes_eq name k.items) keys ≡ None → (i : ℕ) → i < length (names_of keys) → key_at (names_of keys) i ≡ name → ⊥
 absent-kept keys name h = absent-key (names_of keys) name (key-position keys name ∙ h)
 
--- a name that is new comes last
+-- a new name comes last
 pub record OneMore (was now : List Name) (name : Name) : Type 0 where
   pub is : now ≡ was ++ name ∷ []
   pub none : (i : ℕ) → i < length was → key_at was i ≡ name → ⊥
@@ -229,7 +229,7 @@ defined-under was now name es vs o a = record {
         ap (λ i. get_or (vs ++ None ∷ []) i None) (l.0 ∙ sym a.long) ∙ get_or-append_seam vs None [] None
         ∙ sym (ap (value_among (symbols_in was es)) l.1 ∙ ap (option_map (λ (s : Symbol). s.value)) (lookup-missing was es name a.inside o.none))
 
--- the values before an edit, among which the new name has none
+-- the values before an edit, in which the new name has no value
 pub valued-more : (keys : List Name) (vs : List (Option ℤ)) (name : Name) → length vs ≡ length keys → valued_in (keys ++ name ∷ []) (vs ++ None ∷ []) ≡ valued_in keys vs
 valued-more [] [] name e = refl
 valued-more [] (v ∷ vs) name e = absurd (omega (arith, e))
@@ -237,18 +237,18 @@ valued-more (k ∷ ks) [] name e = absurd (omega (arith, e))
 valued-more (k ∷ ks) (None ∷ vs) name e = valued-more ks vs name (omega (arith, e))
 valued-more (k ∷ ks) (Some v ∷ vs) name e = ap (λ es. (k, v) ∷ es) (valued-more ks vs name (omega (arith, e)))
 
--- a key that the set already has changes no key
+-- adding a key that the set already contains changes no key
 pub same-keys : (keys later : List (Vec ℕ)) (key : Vec ℕ) (new : Bool) → new ≡ false → new ≡ not (list_any (λ (k : Vec ℕ). bytes_eq key.items k.items) keys)
     → later ≡ cond (list_any (λ (k : Vec ℕ). bytes_eq key.items k.items) keys) keys (keys ++ key ∷ []) → later ≡ keys
 same-keys keys later key new sure is then = grind arith
 
--- the key that stands at an index
+-- the key at an index
 pub key-there : (keys : List (Vec ℕ)) (i : ℕ) (name : Name) → ((k : Vec ℕ) × (slice_get keys i ≡ Some k) × (bytes_eq name k.items ≡ true)) → key_at (names_of keys) i ≡ name
 key-there keys i name s =
     get_or_from_slice_get (names_of keys) i s.0.items [] (slice_get-map (λ (k : Vec ℕ). k.items) keys i ∙ ap (option_map (λ (k : Vec ℕ). k.items)) s.1)
     ∙ sym ((bytes_eq-Decides name s.0.items).0 s.2)
 
--- a name's value stands at its number
+-- a name's value is at its number
 pub value-found : (keys : List Name) (es : List Entry) (vs : List (Option ℤ)) (name : Name) (i : ℕ) → AreDefined keys es vs → (i < length keys) × (key_at keys i ≡ name) → get_or vs i None ≡ value_among (symbols_in keys es) name
 value-found keys es vs name i a f = a.valued i f.0 ∙ ap (value_among (symbols_in keys es)) f.1
 
@@ -299,19 +299,19 @@ once-listed t u es items vs k same listed view a h =
     let at : lookup_name (take k u.symbols) (key_at u.keys (get_or items k no-entry).id.number) ≡ None = rw (view, listed) new in
     subst (λ (v : Tables). lookup_name (take k v.symbols) (key_at v.keys (get_or items k no-entry).id.number) ≡ None) same at
 
--- Symbols of lines past a number, taken back from the last one on.
+-- Symbols of lines past a number, removed from the last one on.
 
 pub last-of : (es : List Entry) (e : Entry) → Some e ≡ slice_get es (length es - 1) → es ≡ take (length es - 1) es ++ e ∷ []
 last-of es e at =
     let inside : length es - 1 < length es = slice_get_within es (length es - 1) e (sym at) in
     sym (take_all (length es - 1 + 1) es (omega arith)) ∙ take_more es (length es - 1) e inside ∙ ap (λ x. take (length es - 1) es ++ x ∷ []) (get_or_from_slice_get es (length es - 1) e e (sym at))
 
--- without its last entry, a front is still a front
+-- a front without its last entry is still a front
 pub front-less : (es next whole : List Entry) (e : Entry) → es ≡ next ++ e ∷ [] → IsFront es whole → IsFront next whole
 front-less es next whole e is front =
     sym (take-append_seam next (e ∷ [])) ∙ ap (take (length next)) (sym is ∙ front) ∙ take-take (length next) (length es) whole (omega (arith, ap length is, length-append next (e ∷ [])))
 
--- the entry that is taken back is of a line past a number
+-- the removed entry belongs to a line past a number
 pub past-next : (number : ℕ) (es next whole : List Entry) (e : Entry) → es ≡ next ++ e ∷ [] → IsFront es whole → number < e.symbol.line → IsPastNext number next whole
 past-next number es next whole e is front high =
     let count : length es ≡ length next + 1 = ap length is ∙ length-append next (e ∷ []) in
@@ -320,8 +320,8 @@ past-next number es next whole e is front high =
     ∙ ap Some (sym (get_or-take (length es) whole (length next) e (omega arith)) ∙ ap (λ xs. get_or xs (length next) e) (sym front ∙ is) ∙ get_or-append_seam next e [] e) in
     subst (λ o. IfSome o (λ (x : Entry). number < x.symbol.line)) (sym at) high
 
--- if a front ends at a number and the next entry is past it, the symbols of the front are those of
--- the lines up to that number
+-- if a front ends at a number and the next entry is past that number, the symbols of the front are
+-- those of the lines up to that number
 pub front-early : (number : ℕ) (keys : List Name) (es whole : List Entry) → IsFront es whole → EndsBy number es → IsPastNext number es whole
     → (early later : List (Name × Symbol)) → symbols_in keys whole ≡ early ++ later → AreUpTo number early → AreOver number later → symbols_in keys es ≡ early
 front-early number keys es whole front ends next early later is up over = by (cases_lt (length es) (length early)) (cases_lt (length early) (length es))

@@ -1,4 +1,4 @@
--- The values of names, now and before an edit: how many differ.
+-- The values of names, now and before an edit, and the number of values that differ.
 use Rattle.std.proofs.Common.{◌≡◌, ℕ, ◌+◌, ◌-◌, ◌<◌, ◌≤◌, ◌⊎◌, inl, inr, ℤ, Bool, true, false, not, cond, List, [], ◌∷◌, ◌++◌, length, set, get_or, refl, ap, sym, ◌∙◌, arith, Option, Some, None, length-append, length-set}
 use Rattle.std.specs.Option.{option_eq}
 use Rattle.std.specs.Ordering.{int_eq}
@@ -18,7 +18,7 @@ same-value None (Some y) e = cc
 same-value (Some x) None e = cc
 same-value (Some x) (Some y) e = ap Some ((Decides-int_eq x y).0 e)
 
--- if none differ, the values are the same
+-- if no values differ, the two lists are the same
 pub all-same : (now past : List (Option ℤ)) (ds : List Bool) (n : ℕ) → AreCompared now past ds n → n ≡ 0 → past ≡ now
 all-same now past ds n a none = ext_get_or None past now a.long (λ i h. by i (omega (arith, h, a.long)) (is_same_at past now i) refl)
   where

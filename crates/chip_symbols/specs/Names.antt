@@ -9,11 +9,11 @@ use Rattle.chip_symbols.specs.declared.table.Symbol.{Symbol}
 abbrev pub Name : Type 0
 Name = List ℕ
 
--- the value and the line of a name, if the table has it
+-- the value and the line of a name, if the table contains the name
 abbrev pub lookup_name : List (Name × Symbol) → Name → Option Symbol
 lookup_name names name = lookup (bytes_eq name) names
 
--- the names, each with its value alone
+-- the names, each with its value but without its line
 abbrev pub valued : List (Name × Symbol) → List (Name × ℤ)
 valued names = map (λ e. (e.0, e.1.value)) names
 

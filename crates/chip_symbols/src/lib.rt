@@ -1,4 +1,4 @@
-//! The symbols of a source: names, each with a number and a value, kept up to date under edits.
+//! The symbols of a source: names, each with a number and a value, updated by each edit.
 #![tactic(auto)]
 
 mod name_hasher;

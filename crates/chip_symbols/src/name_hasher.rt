@@ -2,8 +2,8 @@
 
 use std::hash::{BuildHasher, FoldHasher, Hasher};
 
-/// Hashes names with a seed. If the seed is drawn at the start of the program, nobody can choose
-/// names for a source that collide. No answer depends on the seed.
+/// Hashes names with a seed. If the program draws the seed when it starts, nobody can choose
+/// colliding names for a source. No answer depends on the seed.
 #[derive(Clone, Copy)]
 pub struct NameHasher {
     seeded: FoldHasher,

@@ -17,7 +17,7 @@ use std::alloc::{AllocError, Global};
 use std::cell::Cell;
 use std::marker::Model;
 
-/// The value of a name, and the number of the line that gives it.
+/// The value of a name, and the number of the line that defines the name.
 #[derive(Clone, Copy, Debug, PartialEq, Eq)]
 pub struct Symbol {
     /// The value of the name.
@@ -26,14 +26,14 @@ pub struct Symbol {
     pub line: usize,
 }
 
-/// The number of a name, which the name keeps as long as the table exists.
+/// The number of a name. A name keeps its number as long as the table exists.
 #[derive(Clone, Copy, PartialEq, Eq)]
 pub struct NameId {
     /// The number, counted from 0.
     pub number: u32,
 }
 
-/// A name that a line gives, with its symbol.
+/// A name that a line defines, with its symbol.
 #[derive(Clone, Copy)]
 pub(crate) struct Entry {
     pub(crate) id: NameId,
@@ -64,7 +64,7 @@ fn take_back(entries: &mut Vec<Entry>, values: &mut Values, number: usize)
 
 /// The table of symbols. Names are in upper case. A name gets a number as soon as a line uses or
 /// defines it, and keeps that number. The symbols are in line order, and the value of each name is
-/// stored at its number.
+/// stored at the name's number.
 #[derive(Drop)]
 pub struct Table {
     keys: IndexSet<Vec<u8>, NameHasher>,
@@ -111,8 +111,8 @@ impl Table {
         }
     }
 
-    /// The number of a name, which gets a new one if it has none. Fails only if memory runs out or
-    /// a number needs more than 32 bits.
+    /// The number of a name. A name without a number gets a new one. Fails only if memory runs out
+    /// or a number needs more than 32 bits.
     pub fn number(&mut self, alloc: Global, name: &[u8]) -> Result<NameId, AllocError>
         ensures keys { Extends self.old.keys self.new.keys }
         ensures symbols { self.new.symbols ≡ self.old.symbols }
@@ -146,7 +146,7 @@ impl Table {
         Ok(index)
     }
 
-    /// Takes room for the symbols of so many more lines. Fails only if memory runs out.
+    /// Reserves room for the symbols of this many more lines. Fails only if memory runs out.
     fn reserve(&mut self, lines: usize) -> Result<(), AllocError>
         ensures keys { self.new.keys ≡ self.old.keys }
         ensures symbols { self.new.symbols ≡ self.old.symbols }
@@ -156,9 +156,9 @@ impl Table {
         self.entries.reserve(lines)
     }
 
-    /// Begins an edit that leaves the lines up to `number` as they are: keeps the symbols of those
-    /// lines alone, with room for the symbols of `lines` more lines, and remembers the values
-    /// before the edit. Fails only if memory runs out, and then keeps all symbols.
+    /// Begins an edit that doesn't change the lines up to `number`: keeps only the symbols of those
+    /// lines, reserves room for the symbols of `lines` more lines, and stores the values before the
+    /// edit. Fails only if memory runs out, and then keeps all symbols.
     pub fn begin(&mut self, number: usize, lines: usize) -> Result<(), AllocError>
         ensures room { OnOk result (length self.new.symbols + lines ≤ self.new.room) }
         ensures keys { self.new.keys ≡ self.old.keys }
@@ -183,24 +183,24 @@ impl Table {
         self.values.get(id.number as usize).is_some()
     }
 
-    /// Whether some name may have another value than before the edit, or has gained or lost its
-    /// value.
+    /// Whether any name may have a different value than before the edit, or may have gained or lost
+    /// its value.
     pub fn has_differences(&self) -> bool
         ensures { result ≡ false → self.now.before ≡ values_of self.now.symbols }
     {
         self.values.has_differences()
     }
 
-    /// For the number of each name, whether the name has another value than before the edit, or has
-    /// gained or lost its value.
+    /// For the number of each name, whether the name has a different value than before the edit, or
+    /// has gained or lost its value.
     pub fn differences(&self) -> &[bool]
         ensures { AreDifferences self.now result.now }
     {
         self.values.noted()
     }
 
-    /// Whether the name with this number has the same value as before the edit, or had none and has
-    /// none.
+    /// Whether the name with this number has the same value as before the edit, or had no value and
+    /// still has none.
     pub fn keeps_value(&self, id: NameId) -> bool
         requires { id.number < length self.now.keys }
         ensures { result
@@ -210,8 +210,8 @@ impl Table {
         !self.values.differ(id.number as usize)
     }
 
-    /// Whether each name with one of these numbers has the same value as before the edit, or had
-    /// none and has none.
+    /// Whether each name with one of these numbers has the same value as before the edit, or had no
+    /// value and still has none.
     pub fn keep_values(&self, numbers: &[NameId]) -> bool
         requires { All (λ id. id.number < length self.now.keys) numbers.now }
         ensures { result
@@ -291,7 +291,7 @@ impl Table {
         self.hasher
     }
 
-    /// The number of names that have a number.
+    /// The number of names in the table, each of which has a number.
     pub fn count(&self) -> usize
         ensures { result ≡ length self.now.keys }
     {
@@ -334,7 +334,7 @@ impl Table {
         true
     }
 
-    /// Adds the symbol of a name that has none.
+    /// Adds the symbol of a name that has no symbol yet.
     #[inline(never)]
     pub fn define(&mut self, id: NameId, symbol: Symbol)
         requires within { id.number < length self.old.keys }

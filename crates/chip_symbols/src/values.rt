@@ -1,4 +1,4 @@
-//! The values of names, now and before an edit.
+//! The current values of names, and the values before an edit.
 ghost use Rattle.std.specs.Prelude.{◌≡◌, ◌<◌, ◌++◌, [], ◌∷◌, None, OnOk, false, true, not, if◌then◌else◌, length, slice_index_or, slice_set};
 ghost use Rattle.std.specs.Option.{option_eq};
 ghost use Rattle.std.specs.Ordering.{int_eq};
@@ -7,7 +7,7 @@ ghost use Rattle.chip_symbols.specs.inner.Entries.{AreNoted};
 use std::alloc::{AllocError, Global};
 use std::marker::Model;
 
-/// The value of each name, or none, at its number: now, and before an edit.
+/// The value of each name, or none, at the name's number, both now and before an edit.
 #[derive(Drop)]
 pub(crate) struct Values {
     pub(crate) current: Vec<Option<i32>>,
@@ -46,7 +46,7 @@ impl Values {
         }
     }
 
-    /// Takes room for one more name. Fails only if memory runs out.
+    /// Reserves room for one more name. Fails only if memory runs out.
     pub(crate) fn reserve(&mut self) -> Result<(), AllocError>
         ensures now { self.new.current ≡ self.old.current }
         ensures past { self.new.past ≡ self.old.past }
@@ -68,7 +68,7 @@ impl Values {
         self.differs.push_reserved(false);
     }
 
-    /// The value at a number; none if there is none.
+    /// The value at a number; none if the name with that number has no value.
     #[inline(always)]
     pub(crate) fn get(&self, number: usize) -> Option<i32>
         requires { number < length self.now.current }
@@ -91,7 +91,7 @@ impl Values {
         self.different = others + one_of(differs);
     }
 
-    /// Makes the values now the values before the edit.
+    /// Makes the current values the values before the edit.
     pub(crate) fn settle(&mut self)
         ensures now { self.new.current ≡ self.old.current }
         ensures past { self.new.past ≡ self.old.current }
@@ -103,7 +103,7 @@ impl Values {
         }
     }
 
-    /// Whether some number has another value than before the edit, or has gained or lost its value.
+    /// Whether any number has a different value than before the edit, or has gained or lost its value.
     pub(crate) fn has_differences(&self) -> bool
         ensures { result ≡ false → self.now.past ≡ self.now.current }
     {

@@ -1,4 +1,4 @@
--- The comparison of two lists of lines, one line after another.
+-- The comparison of two lists of lines, one line after the other.
 use Rattle.std.proofs.Common.{◌≡◌, ◌≢◌, ℕ, zero, suc, ◌+◌, ◌-◌, ◌<◌, ◌==◌, Bool, true, false, cond, List, [], ◌∷◌, ◌++◌, map, take, drop, length, refl, sym, ap, ap₂, ◌∙◌, arith, Some, None, length-append, length-drop, below_more, add-one}
 use Rattle.std.specs.List.{slice_get}
 use Rattle.std.specs.Option.{option_map}
@@ -15,29 +15,36 @@ use Rattle.chip_trace.specs.declared.difference.Difference.{Difference}
 use Rattle.chip_trace.specs.declared.limits.TheConstants.{LINES_BEFORE}
 
 pub same_run : (h : History State) → SameRun h h
-same_run h = record { start = refl; rate = refl; spacing = refl; keys = refl }
+same_run h = record { start = refl; rate = refl; spacing = refl; keys = refl; reach = omega arith; ran = omega arith }
 
 pub same_runs : (a b c : History State) → SameRun a b → SameRun b c → SameRun a c
-same_runs a b c p q = record { start = q.start ∙ p.start; rate = q.rate ∙ p.rate; spacing = q.spacing ∙ p.spacing; keys = q.keys ∙ p.keys }
+same_runs a b c p q = record {
+  start = q.start ∙ p.start;
+  rate = q.rate ∙ p.rate;
+  spacing = q.spacing ∙ p.spacing;
+  keys = q.keys ∙ p.keys;
+  reach = omega (arith, p.reach, q.reach);
+  ran = omega (arith, p.ran, q.ran);
+}
 
--- a line was taken from an empty text on
+-- a line is taken into an empty text
 pub taken : (before : List (List ℕ)) (text : List ℕ) (after : List (List ℕ)) → TakesLine before true [] text after → before ≡ text ∷ after
 taken [] text after t = absurd (let e = t.0 in cc)
 taken (line ∷ lines) text after t = ap₂ (λ l ls. l ∷ ls) (sym t.1) (sym t.2)
 
--- none was left, and nothing changed
+-- no line remains, and nothing changes
 pub none_taken : (before : List (List ℕ)) (text text_after : List ℕ) (after : List (List ℕ)) → TakesLine before false text text_after after → (before ≡ []) × (text_after ≡ text) × (after ≡ [])
 none_taken [] text text_after after t = (refl, t.1, t.2)
 none_taken (line ∷ lines) text text_after after t = absurd (let e = t.0 in cc)
 
--- the line at a place is the first one left
+-- the line at an index is the first one left after that many lines
 get_drop : (xs : List (List ℕ)) (n : ℕ) → slice_get xs n ≡ slice_get (drop n xs) 0
 get_drop [] zero = refl
 get_drop [] (suc n) = refl
 get_drop (x ∷ xs) zero = refl
 get_drop (x ∷ xs) (suc n) = get_drop xs n
 
--- a front with one element more, where one is left
+-- the first lines with one more, if one is left
 pub take_one_more : (xs : List (List ℕ)) (n : ℕ) (x : List ℕ) (rest : List (List ℕ)) → drop n xs ≡ x ∷ rest →
     (take (suc n) xs ≡ take n xs ++ x ∷ []) × (drop (suc n) xs ≡ rest)
 take_one_more [] zero x rest e = absurd (cc)
@@ -46,7 +53,7 @@ take_one_more (y ∷ ys) zero x rest e = (let same : y ≡ x = cc in ap (λ l. l
 take_one_more (y ∷ ys) (suc n) x rest e =
     let more = take_one_more ys n x rest e in (ap (λ l. y ∷ l) more.0, more.1)
 
--- the last lines of a front with one line more
+-- the last lines, after one more line is appended
 last_more : (front : List (List ℕ)) (line : List ℕ) → with_line (last_lines front) line ≡ last_lines (front ++ line ∷ [])
 last_more front line = by_test (length (last_lines front) == LINES_BEFORE) refl
   where
@@ -74,12 +81,12 @@ last_more front line = by_test (length (last_lines front) == LINES_BEFORE) refl
         ∙ sym (drop-append-le start front (line ∷ []) (omega arith))
         ∙ ap (λ n. drop n (front ++ line ∷ [])) place
 
--- the line at a place where some are left
+-- the line at an index, if some lines are left
 there : (lines : List (List ℕ)) (count : ℕ) (line : List ℕ) (left : List (List ℕ)) → drop count lines ≡ line ∷ left → slice_get lines count ≡ Some line
 there lines count line left e = get_drop lines count ∙ ap (λ l. slice_get l 0) e
 
 module _ (ours theirs ours_left theirs_left kept : List (List ℕ)) (count : ℕ) (so_far : AlikeSoFar ours theirs ours_left theirs_left kept count) where
-  -- one line more is the same
+  -- one more line is equal
   pub alike_more : (our their : List ℕ) (our_rest their_rest kept_after : List (List ℕ)) → ours_left ≡ our ∷ our_rest → theirs_left ≡ their ∷ their_rest
       → str_to_ascii_lowercase our ≡ str_to_ascii_lowercase their → kept_after ≡ with_line kept our
       → AlikeSoFar ours theirs our_rest their_rest kept_after (count + 1)

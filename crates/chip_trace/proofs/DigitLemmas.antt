@@ -1,4 +1,4 @@
--- The digits of numbers, by arithmetic.
+-- The digits of numbers, computed by arithmetic.
 use Rattle.std.proofs.Common.{◌≡◌, ℕ, zero, suc, ◌+◌, ◌*◌, ◌/◌, ◌%◌, ◌<◌, ◌≤◌, ◌==◌, ◌&&◌, Bool, true, cond, inl, inr, List, ◌∷◌, [], ◌++◌, length, take, drop, slice_set, ap, Ok, Err, Result, OnOk, is_ok, refl, get_or, slice_index, arith}
 use Rattle.std.specs.Fmt.{decimal}
 use Rattle.std.specs.Prelude.{nat_lt, if◌then◌else◌}
@@ -11,7 +11,7 @@ use Rattle.hex.proofs.Pairs.{take-two_writes}
 use Rattle.chip_lang.specs.Show.{hex_digit, two_hex_digits}
 use Rattle.chip_trace.specs.Digits.{hex_byte, spaced}
 
--- whether the digits of the first n numbers are those of the table, which computes
+-- whether the digits of the first n numbers are those of the table, as a computation
 abbrev are_digits : (digit : ℕ → ℕ) → ℕ → Bool
 are_digits digit zero = true
 are_digits digit (suc n) = (digit n == slice_index lower_digits n) && are_digits digit n
@@ -36,7 +36,7 @@ two_digits_are byte lt =
     let high : byte / 16 % 16 ≡ byte / 16 = omega arith in
     rw (high, digits_below hex_digit 16 (byte / 16) refl (omega arith), digits_below hex_digit 16 (byte % 16) refl (omega arith)) refl
 
--- the one clause of an append, where it succeeds
+-- the only clause of a successful append
 pub taken_where_ok : {T E X : Type 0} (r : Result T E) (x a b : X) → x ≡ cond (is_ok r) a b → OnOk r (x ≡ a)
 taken_where_ok (Ok t) x a b h = h
 taken_where_ok (Err e) x a b h = tt
@@ -56,13 +56,13 @@ pub pair_is : (digits : List ℕ) (byte : ℕ) → digits ≡ hex_byte byte → 
 unfolding encode_with
 pair_is digits byte h = (ap (λ l. slice_index l 0) h, ap (λ l. slice_index l 1) h)
 
--- the rest of the text, from one byte on
+-- the rest of the text, starting at one byte
 spaced-drop : (xs : List ℕ) (i : ℕ) → i < length xs → spaced hex_byte (drop i xs) ≡
     32 ∷ slice_index lower_digits (slice_index xs i / 16) ∷ slice_index lower_digits (slice_index xs i % 16) ∷ spaced hex_byte (drop (i + 1) xs)
 unfolding encode_with
 spaced-drop xs i h = rw (drop_more xs i 0 h) refl
 
--- one byte more is written, behind the space that stands there
+-- one more byte is written after the space that precedes it
 pub spaced_step : (input output : List ℕ) (i x y : ℕ) → i < length input → 3 * i + 2 < length output → get_or output (3 * i) 0 ≡ 32
     → x ≡ slice_index lower_digits (slice_index input i / 16) → y ≡ slice_index lower_digits (slice_index input i % 16)
     → take (3 * i) output ++ spaced hex_byte (drop i input) ≡ spaced hex_byte input

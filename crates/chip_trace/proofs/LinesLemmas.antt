@@ -1,4 +1,4 @@
--- Lines that are taken one after another, each with a newline.
+-- Lines that are taken one after the other, each with a newline.
 use Rattle.std.proofs.Common.{◌≡◌, ℕ, ◌+◌, ◌-◌, ◌<◌, ◌≤◌, Bool, true, false, not, List, [], ◌∷◌, ◌++◌, map, take, drop, length, refl, sym, ap, ◌∙◌, arith, append_assoc, add-one, length-append, length-drop, take_all}
 use Rattle.std.specs.Prelude.{◌↔◌}
 use Rattle.std.specs.List.{range_with_len}
@@ -19,7 +19,7 @@ taken : (before : List (List ℕ)) (text text_after : List ℕ) (after : List (L
 taken [] text text_after after t = absurd (let e = t.0 in cc)
 taken (line ∷ lines) text text_after after t = record { line = line; before_is = ap (λ ls. line ∷ ls) (sym t.2); added = t.1 }
 
--- one line more
+-- one more line is taken
 pub one_line_more : (all before after : List (List ℕ)) (n : ℕ) (front text text_after : List ℕ) → text ≡ front ++ newline_ended (take n all) → before ≡ drop n all
     → TakesLine before true text text_after after → (text_after ++ 10 ∷ [] ≡ front ++ newline_ended (take (n + 1) all)) × (after ≡ drop (n + 1) all)
 one_line_more all before after n front text text_after is left t =
@@ -37,7 +37,7 @@ one_line_more all before after n front text text_after is left t =
 none_past : (all : List (List ℕ)) (n : ℕ) → drop n all ≡ [] → length all ≤ n
 none_past all n e = omega (arith, ap length e, length-drop n all)
 
--- no line is left before so many were taken
+-- if no line remains after n lines, taking more lines takes the same lines
 pub all_taken : (all : List (List ℕ)) (n most : ℕ) → drop n all ≡ [] → n ≤ most → (take n all ≡ take most all) × (drop most all ≡ []) × (length all ≤ most)
 all_taken all n most none le =
     let past = none_past all n none in
@@ -45,7 +45,7 @@ all_taken all n most none le =
     (take_all n all past ∙ sym (take_all most all past_most), drop_all most all past_most, past_most)
 
 module _ (state : ℕ → State) where
-  -- an open trace has a line
+  -- a trace that isn't done has a line
   has_line : (t : Progress) → t.is_done ≡ false → 0 < length (remaining state t)
   unfolding trace_lines
   has_line t more =

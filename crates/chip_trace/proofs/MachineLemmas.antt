@@ -1,4 +1,4 @@
--- The names of a machine's choices, as they are added one after another.
+-- The names of a machine's choices, as they are added one after the other.
 use Rattle.std.proofs.Common.{◌<◌, ◌+◌, get_or, length, drop, ◌≡◌, ◌∷◌, ◌++◌, ◌∙◌, ℕ, Bool, true, false, List, [], ap, sym, refl, map, append-nil, append_assoc}
 use Rattle.std.specs.Borrow.{Bor}
 use Rattle.std.specs.List.{flat_map, join_with_byte}
@@ -9,12 +9,12 @@ use Rattle.chip_machine.specs.declared.quirks.Quirks.{Quirks}
 use Rattle.chip_trace.specs.Machine.{names_in}
 use Rattle.chip_trace.specs.Lines.{newline_ended}
 
--- pieces with a byte between each two, where others may stand before them
+-- pieces separated by a byte, possibly with other pieces before them
 abbrev pub joined_after : (is_first : Bool) → List (List ℕ) → List ℕ
 joined_after true pieces = join_with_byte 44 pieces
 joined_after false pieces = flat_map (λ piece. 44 ∷ piece) pieces
 
--- the choices of a list without where they stand
+-- the choices of a list, without their addresses
 abbrev pub values : List (Bor (List ℕ) × Choice) → List (List ℕ × Choice)
 values choices = map (λ c. (c.0.now, c.1)) choices
 
@@ -48,7 +48,7 @@ pub joined_next : (text name : List ℕ) (more : List (List ℕ)) →
 joined_next text name more =
     append_assoc (text ++ 44 ∷ []) name _ ∙ append_assoc text (44 ∷ []) _
 
--- a line of two parts, with a newline
+-- a line that consists of two parts, with a newline
 pub one_line : (text front back : List ℕ) → ((text ++ front) ++ back) ++ 10 ∷ [] ≡ text ++ newline_ended ((front ++ back) ∷ [])
 one_line text front back =
     ap (λ l. l ++ 10 ∷ []) (append_assoc text front back)

@@ -20,7 +20,7 @@ use Rattle.chip_trace.specs.declared.header.HeaderError.TheVariants.{NotAHeader,
 use Rattle.chip_trace.specs.declared.column.Column.{Column}
 use Rattle.chip_trace.specs.declared.column.Column.TheVariants.{Step, Pc, Word, Register, Index, Delay, Sound, Depth, Draws, Screen, Memory, Text}
 
--- no register is found
+-- no register passes the test
 pub none_registered : (p : Column → Bool) (a n : ℕ) → ((k : ℕ) → k < a + n → p (Register k) ≡ false) → find p (map (λ x. Register x) (range_with_len a n)) ≡ None
 none_registered p a zero none = refl
 none_registered p a (suc n) none =
@@ -36,7 +36,7 @@ find_passes p (x ∷ xs) column e = first_or (p x) refl (find p xs) e (λ rest. 
     first_or true passes found e rest = let same : x ≡ column = cc in ap p (sym same) ∙ passes
     first_or false fails found e rest = rest e
 
--- the only name
+-- a text without a space is a single name
 pub only_name : (names : List ℕ) → length names ≤ position_or_len is_space names → slice_split is_space names ≡ names ∷ []
 only_name names past =
     let none : All (λ b. is_space b ≡ false) names =
@@ -45,7 +45,7 @@ only_name names past =
 
 -- ---- names in lower case
 
--- each byte of a list is in lower case
+-- each byte of a list is lower case
 abbrev all_lower : List ℕ → Bool
 all_lower [] = true
 all_lower (b ∷ bs) = (to_ascii_lowercase b == b) && all_lower bs
@@ -55,7 +55,7 @@ lower_at_place [] i e = refl
 lower_at_place (b ∷ bs) zero e = eqb-true _ _ (and_parts (to_ascii_lowercase b == b) (all_lower bs) e).0
 lower_at_place (b ∷ bs) (suc i) e = lower_at_place bs i (and_parts (to_ascii_lowercase b == b) (all_lower bs) e).1
 
--- names are in lower case
+-- column names are lower case
 lower_name : (column : Column) → str_to_ascii_lowercase (column_name column) ≡ column_name column
 lower_name Step = refl
 lower_name Pc = refl
@@ -70,7 +70,7 @@ lower_name Screen = refl
 lower_name Memory = refl
 lower_name Text = refl
 
--- the column of a name has that name
+-- the column found for a name has that name
 name_is : (name : List ℕ) (column : Column) → column_of name ≡ Some column → column_name column ≡ str_to_ascii_lowercase name
 unfolding column_of
 name_is name column e =
@@ -93,7 +93,7 @@ lower_joined (name ∷ next ∷ names) =
     ap (λ rest. str_to_ascii_lowercase name ++ (32 ∷ rest)) (lower_joined (next ∷ names))
     ∙ sym (map-append to_ascii_lowercase name (32 ∷ join_with_byte 32 (next ∷ names)))
 
--- a line that begins as a header does
+-- a line that starts as a header does
 abbrev begins : List ℕ → Bool
 begins line = starts_with nat_eq line (codes "# ")
 
@@ -110,9 +110,9 @@ header_is line columns e named =
     ∙ ap (λ l. codes "# " ++ l) (lower_joined names ∙ ap str_to_ascii_lowercase (join_with_byte-slice_split 32 (drop 2 line)))
     ∙ ap str_to_ascii_lowercase (sym (line_is line e))
 
--- ---- faults
+-- ---- errors
 
--- the fault by the three tests
+-- the error determined by the three tests
 abbrev fault_by : (unknown : ℕ) (is_header has_unknown has_early_text : Bool) → Option HeaderError
 fault_by unknown is_header has_unknown has_early_text =
     cond (not is_header) (Some NotAHeader) (cond has_unknown (Some (UnknownColumn unknown)) (cond has_early_text (Some TextNotLast) None))
@@ -154,7 +154,7 @@ text_there columns =
     ∙ ap (list_any is_text) (take-map Some (length columns - 1) columns)
     ∙ any_map is_text (take (length columns - 1) columns)
 
--- the fault of a line whose names are all known
+-- the error of a line whose names are all known
 pub late_fault : (line : List ℕ) (columns : List Column) (early : Bool) → begins line ≡ true → map Some columns ≡ columns_named line
     → early ≡ list_any (λ column. is_text (Some column)) (take (length columns - 1) columns)
     → header_fault line ≡ cond early (Some TextNotLast) None

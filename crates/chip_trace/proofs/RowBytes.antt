@@ -1,4 +1,4 @@
--- The points of a row, eight to a byte, as the bits of a number.
+-- The pixels of a row, eight per byte, as the bits of a number.
 use Rattle.std.proofs.Common.{◌≡◌, ℕ, ◌+◌, ◌*◌, ◌-◌, ◌/◌, ◌%◌, ◌^◌, ◌<◌, ◌==◌, List, [], ◌∷◌, ◌++◌, length, take, slice_set, sym, ap, ap₂, ◌∙◌, zero-add, arith, div-one, lit<, refl, ◌≢◌, suc, add-zero, below_more, fold, get_or, get_or-set_other, get_or-set_same}
 use Rattle.std.specs.Int.{bit_at}
 use Rattle.std.specs.List.{flat_map, range_with_len}
@@ -10,7 +10,7 @@ use Rattle.chip_machine.specs.Points.{Points, is_lit, lights}
 use Rattle.chip_trace.specs.Sums.{bit, points_byte, row_bytes, screen_bytes, fnv_step, fnv_basis, fnv_of}
 use Rattle.chip_trace.specs.inner.Rows.{bytes_of_row, bytes_of_rows}
 
--- a bit, by whether it is 1
+-- the value of a bit, computed from whether it is 1
 as_bit : (n : ℕ) → n < 2 → bit (n == 1) ≡ n
 as_bit n small = grind arith
 
@@ -46,7 +46,7 @@ module _ (lit : Points) (row bits : ℕ) (points : (column : ℕ) → column < 1
   on : (x y : ℕ) (xs ys : List ℕ) → x ≡ y → xs ≡ ys → x ∷ xs ≡ y ∷ ys
   on x y xs ys e f = ap₂ (λ b bs. b ∷ bs) e f
 
-  -- the bytes of a row, the highest first
+  -- the bytes of a row, with the highest byte first
   pub row_bytes_are : bytes_of_row bits ≡ row_bytes lit row
   unfolding row_bytes bytes_of_row
   row_bytes_are =
@@ -57,7 +57,7 @@ module _ (lit : Points) (row bits : ℕ) (points : (column : ℕ) → column < 1
       (on _ _ _ _ (b 8 (lit< tt)) (on _ _ _ _ (b 9 (lit< tt)) (on _ _ _ _ (b 10 (lit< tt)) (on _ _ _ _ (b 11 (lit< tt))
       (on _ _ _ _ (b 12 (lit< tt)) (on _ _ _ _ (b 13 (lit< tt)) (on _ _ _ _ (b 14 (lit< tt)) (on _ _ _ _ last refl)))))))))))))))
 
--- one row more is kept
+-- one more row is kept
 pub row_kept : (f g : ℕ → List ℕ) (rows : List ℕ) (n points : ℕ) → n < length rows → f points ≡ g n → ((k : ℕ) → k < n → f (get_or rows k 0) ≡ g k)
     → (k : ℕ) → k < n + 1 → f (get_or (slice_set rows n points) k 0) ≡ g k
 row_kept f g rows n points lt here before =
@@ -82,7 +82,7 @@ pub no_rows : bytes_of_rows [] ≡ []
 unfolding bytes_of_rows
 no_rows = refl
 
--- the sum of one row more
+-- the sum of one more row
 pub sum_more : (rows : List ℕ) (i sum after : ℕ) → i < length rows → sum ≡ fnv_of (bytes_of_rows (take i rows)) → after ≡ fold fnv_step sum (bytes_of_row (get_or rows i 0))
     → after ≡ fnv_of (bytes_of_rows (take (i + 1) rows))
 unfolding bytes_of_rows

@@ -1,4 +1,4 @@
--- The lines of a trace, one after another.
+-- The lines of a trace, one after the other.
 use Rattle.std.proofs.Common.{◌≡◌, ℕ, zero, suc, ◌+◌, ◌-◌, ◌≤◌, ◌||◌, Bool, true, false, cond, not, inl, inr, List, [], ◌∷◌, ◌++◌, map, refl, sym, ap, ap₂, ◌∙◌, add-zero, add_assoc, zero-add, arith}
 use Rattle.std.specs.Prelude.{nat_le, is_some}
 use Rattle.std.specs.List.{range_with_len, prefix_len}
@@ -11,7 +11,7 @@ use Rattle.chip_trace.specs.Lines.{trace_end, trace_lines, Progress, states_of, 
 use Rattle.chip_trace.specs.declared.column.Column.{Column}
 use Rattle.chip_trace.specs.declared.form.Form.{Form}
 
--- a test of numbers, seen from one further
+-- a test of numbers, shifted by one
 later : (p q : ℕ → Bool) (a b n : ℕ) → ((k : ℕ) → p (a + k) ≡ q (b + k)) → prefix_len p (range_with_len a n) ≡ prefix_len q (range_with_len b n)
 later p q a b zero same = refl
 later p q a b (suc n) same =
@@ -34,7 +34,7 @@ first_later p q n fails same =
     ap (λ t. cond (not t) (1 + prefix_len (λ x. not (p x)) (range_with_len 1 n)) 0) fails
     ∙ ap (λ r. 1 + r) (later (λ x. not (p x)) (λ x. not (q x)) 1 0 n (λ k. ap not (same k ∙ ap q (sym (zero-add k)))))
 
--- whether the machine has stopped so many steps on
+-- whether the machine has stopped k steps later
 abbrev stopped_after : (state : ℕ → State) (from k : ℕ) → Bool
 stopped_after state from k = is_some (state (from + k)).core.stopped
 
@@ -102,7 +102,7 @@ module _ (state : ℕ → State) where
   unfolding remaining
   open_remains t more = rw more refl
 
-  -- nothing is taken where none remains
+  -- nothing is taken if no line remains
   pub takes_none : (t : Progress) (text : List ℕ) → t.is_done ≡ true → TakesLine (remaining state t) false text text (remaining state t)
   takes_none t text done = rw (done_remains t done) (refl, refl, refl)
 

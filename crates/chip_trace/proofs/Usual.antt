@@ -1,4 +1,4 @@
--- The columns with which a usual trace begins.
+-- The columns that a usual trace starts with.
 use Rattle.std.proofs.Common.{◌≡◌, ◌∙◌, ℕ, zero, suc, ◌+◌, ◌-◌, ◌<◌, Bool, List, [], ◌∷◌, ◌++◌, map, take, drop, length, get_or, slice_index, codes, sym, ap, arith, Option, Some, None, IfSome, Bor, append_assoc, append-nil, take_all, length-drop}
 use Rattle.std.specs.Fmt.{decimal}
 use Rattle.std.specs.List.{flat_map, join_with_byte, range_with_len, slice_get, PartBy}
@@ -17,13 +17,13 @@ use Rattle.chip_trace.specs.declared.column.Column.{Column}
 use Rattle.chip_trace.specs.declared.column.Column.TheVariants.{Step, Pc, Word, Register, Index, Delay, Sound, Depth, Draws}
 use Rattle.chip_trace.proofs.Joined.{joined_is}
 
--- a register of a row of them
+-- a register in a row of registers
 register_there : (n a x : ℕ) (rest : List Column) → x < n → slice_get (map (λ y. Register y) (range_with_len a n) ++ rest) x ≡ Some (Register (a + x))
 register_there zero a x rest lt = absurd (omega arith)
 register_there (suc n) a zero rest lt = ap (λ y. Some (Register y)) (let e : a ≡ a + 0 = omega arith in e)
 register_there (suc n) a (suc x) rest lt = register_there n (a + 1) x rest (omega arith) ∙ ap (λ y. Some (Register y)) (let e : a + 1 + x ≡ a + suc x = omega arith in e)
 
--- a register's place among the first columns
+-- a register's index among the first columns
 pub usual_register : (x : ℕ) → x < 16 → slice_get first_columns (3 + x) ≡ Some (Register x)
 unfolding first_columns
 usual_register x lt =
@@ -33,19 +33,19 @@ usual_register x lt =
     ∙ register_there 16 0 x (Index ∷ Delay ∷ Sound ∷ Depth ∷ Draws ∷ []) lt
     ∙ ap (λ y. Some (Register y)) here
 
--- two lists with the same front have the same element after it
+-- two lists with the same first n elements, and an equal element after them
 pub same_front : (xs ys : List Column) (n : ℕ) (x : Column) → n < length xs → x ≡ get_or xs n x → slice_get ys n ≡ Some x → take n xs ≡ take n ys → take (n + 1) xs ≡ take (n + 1) ys
 same_front xs ys n x inside here there front =
     take_more_same xs ys n x inside (slice_get_within ys n x there) front (sym here ∙ sym (get_or_from_slice_get ys n x x there))
 
--- all of the first columns are in front
+-- columns that start with all of the first columns
 pub begins_so : (columns : List Column) (n : ℕ) → n ≡ 24 → take n columns ≡ take n first_columns → BeginsAsUsual columns
 unfolding first_columns
 begins_so columns n all front =
     let same : take 24 columns ≡ take 24 first_columns = rw all at front in
     sym (take-append-drop 24 columns) ∙ ap (λ l. l ++ drop 24 columns) same
 
--- the columns after the first ones
+-- the columns after the first columns
 after_first : (columns : List Column) → BeginsAsUsual columns → columns ≡ first_columns ++ take (length columns - 24) (drop 24 columns)
 after_first columns usual =
     usual ∙ ap (λ l. first_columns ++ l) (sym (take_all (length columns - 24) (drop 24 columns) (omega (arith, length-drop 24 columns))))
@@ -55,7 +55,7 @@ pub after_get : (columns : List Column) (found : Option (Bor (List Column))) →
 after_get columns None usual got = tt
 after_get columns (Some others) usual got = after_first columns usual ∙ ap (λ l. first_columns ++ l) (sym got.0.2)
 
--- pieces with a byte between each two, seen from a front of them
+-- pieces separated by a byte, split after the first pieces
 joined_after : {A : Type 0} (between : ℕ) (f : A → List ℕ) (x : A) (xs ys : List A) →
     join_with_byte between (map f (x ∷ xs)) ++ flat_map (λ y. between ∷ f y) ys ≡ join_with_byte between (map f (x ∷ (xs ++ ys)))
 joined_after between f x xs ys =
@@ -67,7 +67,7 @@ joined_after between f x xs ys =
 abbrev later_columns : List Column
 later_columns = Pc ∷ Word ∷ (register_columns ++ (Index ∷ Delay ∷ Sound ∷ Depth ∷ Draws ∷ []))
 
--- a line that begins as a usual one
+-- a line that starts like a usual line
 pub line_after : (old : List ℕ) (step : ℕ) (s : State) (is_last : Bool) (others : List Column) →
     (old ++ line_of first_columns step s is_last) ++ flat_map (λ column. 32 ∷ field_of column step s is_last) others
     ≡ old ++ line_of (first_columns ++ others) step s is_last
@@ -76,7 +76,7 @@ line_after old step s is_last others =
     append_assoc old (line_of first_columns step s is_last) (flat_map (λ column. 32 ∷ field_of column step s is_last) others)
     ∙ ap (λ l. old ++ l) (joined_after 32 (λ (column : Column). field_of column step s is_last) Step later_columns others)
 
--- an object that begins as a usual one
+-- an object that starts like a usual object
 pub object_after : (old : List ℕ) (step : ℕ) (s : State) (is_last : Bool) (others : List Column) →
     ((old ++ 123 ∷ join_with_byte 44 (map (λ (column : Column). json_member column step s is_last) first_columns))
     ++ flat_map (λ column. 44 ∷ json_member column step s is_last) others) ++ 125 ∷ []
@@ -94,7 +94,7 @@ object_after old step s is_last others =
 fields_joined : (a b c d e f g h : List ℕ) → ((((a ++ b) ++ ((c ++ d) ++ e)) ++ f) ++ g) ++ h ≡ a ++ (b ++ (c ++ (d ++ (e ++ (f ++ (g ++ h))))))
 fields_joined a b c d e f g h = simp append_assoc
 
--- the beginning of a usual line, piece by piece
+-- the start of a usual line, piece by piece
 pub first_fields : (old : List ℕ) (step : ℕ) (s : State) (is_last : Bool) →
     ((((old ++ decimal step) ++ fixed_fields s) ++ decimal (length s.core.frames)) ++ 32 ∷ []) ++ decimal s.core.draws
     ≡ old ++ line_of first_columns step s is_last
@@ -107,7 +107,7 @@ first_fields old step s is_last =
 
 -- ---- the pieces of a usual object
 
--- the member of one register more
+-- the member of one more register
 pub register_more : (old text registers : List ℕ) (n : ℕ) → text ≡ old ++ flat_map (λ x. register_member x (slice_index registers x)) (range_with_len 0 n) →
     (text ++ (44 ∷ 34 ∷ 118 ∷ slice_index lower_digits n ∷ 34 ∷ 58 ∷ [])) ++ decimal (slice_index registers n)
     ≡ old ++ flat_map (λ x. register_member x (slice_index registers x)) (range_with_len 0 (n + 1))
@@ -126,7 +126,7 @@ members_joined a b c d e f g h i j k l m n o p q r = simp (append_assoc, append-
 abbrev last_columns : List Column
 last_columns = Index ∷ Delay ∷ Sound ∷ Depth ∷ Draws ∷ []
 
--- the beginning of a usual object, piece by piece
+-- the start of a usual object, piece by piece
 pub first_members : (old : List ℕ) (step : ℕ) (s : State) (is_last : Bool) →
     ((((((((((((((((old ++ codes "{\"step\":") ++ decimal step) ++ codes ",\"pc\":") ++ decimal s.core.pc) ++ codes ",\"word\":") ++ decimal (word_of s))
     ++ flat_map (λ x. register_member x (slice_index s.core.registers x)) (range_with_len 0 16))

@@ -30,6 +30,6 @@ usual_columns sums =
     ++ (Index ∷ Delay ∷ Sound ∷ Depth ∷ Draws ∷ [])
     ++ (if sums then Screen ∷ Memory ∷ [] else []) ++ (Text ∷ [])
 
--- the line that names the columns: a `#`, and the names with a space before each
+-- the line that names the columns: a `#`, and the names with a space before each name
 abbrev pub header_line : List Column → List ℕ
 header_line columns = codes "# " ++ join_with_byte 32 (map column_name columns)

@@ -17,6 +17,6 @@ hex_sum n =
     hex_word (n / 2 ^ 48) ++ hex_word (n / 2 ^ 32 % 2 ^ 16) ++ hex_word (n / 2 ^ 16 % 2 ^ 16)
     ++ hex_word (n % 2 ^ 16)
 
--- each item after a space
+-- the items, with a space before each item
 abbrev pub spaced : (ℕ → List ℕ) → List ℕ → List ℕ
 spaced text items = flat_map (λ item. 32 ∷ text item) items

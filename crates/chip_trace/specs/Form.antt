@@ -15,8 +15,8 @@ unfoldable pub row_of : Form → List Column → (step : ℕ) → State → (is_
 row_of Fields columns step s is_last = line_of columns step s is_last
 row_of Json columns step s is_last = json_line_of columns step s is_last
 
--- the header lines of a trace of a machine: the line that names the machine, if there is one, and the line that
--- names the columns; none as JSON
+-- the header lines of a trace of a machine: the line that names the machine, if there is one, and the line
+-- that names the columns; JSON has no header lines
 abbrev pub header_lines : Form → Quirks → List Column → List (List ℕ)
 header_lines Fields quirks columns = machine_lines quirks ++ header_line columns ∷ []
 header_lines Json quirks columns = []

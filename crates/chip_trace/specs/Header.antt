@@ -1,4 +1,4 @@
--- Reading the line that names the columns of a trace (chosen by this project).
+-- Reading the line that names a trace's columns (chosen by this project).
 use Rattle.std.specs.Prelude.{ℕ, ◌+◌, ◌-◌, ◌==◌, nat_eq, Bool, true, false, not, List, [], ◌∷◌, ◌++◌, drop, take, length, map, codes, Option, Some, None, is_none, if◌then◌else◌}
 use Rattle.std.specs.List.{find, list_any, position_or_len, slice_split, starts_with}
 use Rattle.std.specs.Str.{str_eq_ignore_ascii_case}
@@ -8,7 +8,7 @@ use Rattle.chip_trace.specs.declared.column.Column.TheVariants.{Step, Pc, Word, 
 use Rattle.chip_trace.specs.declared.header.HeaderError.{HeaderError}
 use Rattle.chip_trace.specs.declared.header.HeaderError.TheVariants.{NotAHeader, UnknownColumn, TextNotLast}
 
--- the columns other than those of the registers
+-- the columns that aren't register columns
 abbrev pub other_columns : List Column
 other_columns =
     Step ∷ Pc ∷ Word ∷ Index ∷ Delay ∷ Sound ∷ Depth ∷ Draws ∷ Screen ∷ Memory ∷ Text ∷ []
@@ -24,7 +24,7 @@ column_of name = find (is_named name) (other_columns ++ register_columns)
 abbrev pub is_space : ℕ → Bool
 is_space byte = byte == 32
 
--- the columns whose names follow the first two bytes of a line, with a space between each two names
+-- the columns whose names follow the first two bytes of a line, separated by spaces
 abbrev pub columns_named : List ℕ → List (Option Column)
 columns_named line = map column_of (slice_split is_space (drop 2 line))
 
@@ -36,11 +36,11 @@ is_text _ = false
 abbrev pub has_text : List (Option Column) → Bool
 has_text columns = list_any is_text (take (length columns - 1) columns)
 
--- the number, from 1, of the first name that is not the name of a column
+-- the number, counted from 1, of the first name that isn't the name of a column
 abbrev pub first_unknown : List (Option Column) → ℕ
 first_unknown columns = position_or_len is_none columns + 1
 
--- the first reason why a line does not name columns, in the order of these tests
+-- the first reason why a line doesn't name columns, in the order of these tests
 unfoldable pub header_fault : List ℕ → Option HeaderError
 header_fault line =
     if not (starts_with nat_eq line (codes "# ")) then Some NotAHeader

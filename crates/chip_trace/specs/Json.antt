@@ -1,4 +1,4 @@
--- The line of a step as a JSON object (the members were chosen by this project; the syntax is that of JSON).
+-- The line of a step as a JSON object (this project chose the members; the syntax is that of JSON).
 use Rattle.std.specs.Prelude.{ℕ, Bool, List, [], ◌∷◌, ◌++◌, length, map, slice_index}
 use Rattle.std.specs.Fmt.{decimal}
 use Rattle.std.specs.List.{join_with_byte}
@@ -14,7 +14,7 @@ use Rattle.chip_trace.specs.declared.column.Column.TheVariants.{Step, Pc, Word, 
 abbrev pub quoted : List ℕ → List ℕ
 quoted text = 34 ∷ text ++ 34 ∷ []
 
--- the value of a column in JSON: a text for the two sums and for `text`, and a number in decimal for the others
+-- a column's value in JSON: a text for the two sums and for `text`, otherwise a number in decimal
 abbrev pub json_value : Column → (step : ℕ) → State → (is_last : Bool) → List ℕ
 json_value Step step s is_last = decimal step
 json_value Pc step s is_last = decimal s.core.pc
@@ -34,7 +34,7 @@ abbrev pub json_member : Column → (step : ℕ) → State → (is_last : Bool) 
 json_member column step s is_last =
     quoted (column_name column) ++ 58 ∷ json_value column step s is_last
 
--- a JSON object with a member for each column, and a comma between each two members
+-- a JSON object with a member for each column, separated by commas
 unfoldable pub json_line_of : List Column → (step : ℕ) → State → (is_last : Bool) → List ℕ
 json_line_of columns step s is_last =
     123 ∷ join_with_byte 44 (map (λ column. json_member column step s is_last) columns) ++ 125 ∷ []

@@ -1,4 +1,4 @@
--- The line of a step, as fields (chosen by this project; the state is that of the COSMAC VIP manual and the
+-- The line of a step, as fields (chosen by this project; the state follows the COSMAC VIP manual and the
 -- SUPER-CHIP 1.1 documentation).
 use Rattle.std.specs.Prelude.{ℕ, Bool, true, false, List, ◌∷◌, length, map, codes, slice_index, Option, Some, None}
 use Rattle.std.specs.Fmt.{decimal}
@@ -13,16 +13,16 @@ use Rattle.chip_trace.specs.Sums.{fnv_of, screen_bytes}
 use Rattle.chip_trace.specs.declared.column.Column.{Column}
 use Rattle.chip_trace.specs.declared.column.Column.TheVariants.{Step, Pc, Word, Register, Index, Delay, Sound, Depth, Draws, Screen, Memory, Text}
 
--- the word at pc, with zeros past the end of the memory
+-- the word at pc; bytes past the end of the memory count as 0
 abbrev pub word_of : State → ℕ
 word_of s = word_at s.memory s.core.pc
 
--- why a machine stopped, as `S` and a number, or `run` if it has not stopped
+-- why a machine stopped, as `S` and a number, or `run` if it hasn't stopped
 abbrev pub stop_name : Option Stop → List ℕ
 stop_name None = codes "run"
 stop_name (Some stop) = 83 ∷ decimal (stop_number stop)
 
--- the field of the column `text`: the instruction, or, in the last line, why the machine stopped
+-- the field of the column `text`: the instruction or, in the last line, why the machine stopped
 abbrev pub text_of : State → (is_last : Bool) → List ℕ
 text_of s true = stop_name s.core.stopped
 text_of s false = show_of (word_of s)
@@ -42,7 +42,7 @@ field_of Screen step s is_last = hex_sum (fnv_of (screen_bytes s.core.lit))
 field_of Memory step s is_last = hex_sum (fnv_of s.memory)
 field_of Text step s is_last = text_of s is_last
 
--- the fields of a step, with a space between each two
+-- the fields of a step, separated by spaces
 unfoldable pub line_of : List Column → (step : ℕ) → State → (is_last : Bool) → List ℕ
 line_of columns step s is_last =
     join_with_byte 32 (map (λ column. field_of column step s is_last) columns)

@@ -1,5 +1,5 @@
 -- The lines of a trace (chosen by this project).
-use Rattle.std.specs.Prelude.{◌≡◌, ◌↔◌, ◌<◌, IsTrue, ℕ, ◌+◌, ◌-◌, Bool, true, false, List, [], ◌∷◌, ◌++◌, map, take, drop, length, is_some, nat_le, ◌||◌, if◌then◌else◌}
+use Rattle.std.specs.Prelude.{◌≡◌, ◌↔◌, ◌<◌, ◌≤◌, IsTrue, ℕ, ◌+◌, ◌-◌, Bool, true, false, List, [], ◌∷◌, ◌++◌, map, take, drop, length, is_some, nat_le, ◌||◌, if◌then◌else◌}
 use Rattle.std.specs.List.{flat_map, range_with_len}
 use Rattle.chip_machine.specs.State.{State}
 use Rattle.chip_machine.specs.Step.{step_of}
@@ -10,13 +10,13 @@ use Rattle.chip_trace.specs.Form.{header_lines, row_of}
 use Rattle.chip_trace.specs.declared.column.Column.{Column}
 use Rattle.chip_trace.specs.declared.form.Form.{Form}
 
--- the step at which a trace ends: the first step from `from` on and below `to` at which the machine has stopped,
--- or else `to`; `from` if `to` is not above it
+-- the step at which a trace ends: the first step, at least `from` and below `to`, at which the machine has
+-- stopped; if there is none, `to`; and `from` if `to` isn't above it
 unfoldable pub trace_end : (state : ℕ → State) (from to : ℕ) → ℕ
 trace_end state from to =
     from + first_below (λ k. is_some (state (from + k)).core.stopped) (to - from)
 
--- the lines of the steps from `from` up to below the end, and the last line, which shows the state at the end
+-- the lines of the steps from `from` to before the end, and the last line, which shows the state at the end
 unfoldable pub trace_lines : Form → List Column → (state : ℕ → State) (from to : ℕ)
     → List (List ℕ)
 trace_lines form columns state from to =
@@ -24,7 +24,7 @@ trace_lines form columns state from to =
     map (λ step. row_of form columns step (state step) false) (range_with_len from (end - from))
     ++ row_of form columns end (state end) true ∷ []
 
--- lines as one text, with a newline after each
+-- the lines as one text, with a newline after each line
 abbrev pub newline_ended : List (List ℕ) → List ℕ
 newline_ended lines = flat_map (λ line. line ++ 10 ∷ []) lines
 
@@ -37,8 +37,8 @@ trace_text form quirks columns state from to =
 abbrev pub states_of : History State → ℕ → State
 states_of history step = state_at step_of history step
 
--- The progress of a trace from which some lines were taken: the lines from the step `next` on remain, or none if
--- it is done.
+-- The progress of a trace from which some lines were taken. The lines starting at step `next` remain, or no
+-- lines if the trace is done.
 pub record Progress : Type 0 where
   pub columns : List Column
   pub form : Form
@@ -52,15 +52,18 @@ remaining state trace =
     if trace.is_done then []
     else trace_lines trace.form trace.columns state trace.next trace.to
 
--- whether two runs have the same start state, rate, spacing of checkpoints and key events
+-- whether two runs have the same start state, rate, spacing of checkpoints and key events, and the second one has
+-- kept what the first one knew and counted
 pub record SameRun (old new : History State) : Type 0 where
   pub start : new.start ≡ old.start
   pub rate : new.rate ≡ old.rate
   pub spacing : new.spacing ≡ old.spacing
   pub keys : new.keys ≡ old.keys
+  pub reach : old.reach ≤ new.reach
+  pub ran : old.ran ≤ new.ran
 
 -- the effect of taking a line: if lines remain, the first one is added to the text, and the lines after it
--- remain; otherwise nothing changes. The answer is whether a line was added.
+-- remain; otherwise nothing changes. `answer` is whether a line was added.
 abbrev pub TakesLine : (before : List (List ℕ)) (answer : Bool) (text text_after : List ℕ)
     (after : List (List ℕ)) → Type 0
 TakesLine [] answer text text_after after =
@@ -68,15 +71,15 @@ TakesLine [] answer text text_after after =
 TakesLine (line ∷ lines) answer text text_after after =
     (answer ≡ true) × (text_after ≡ text ++ line) × (after ≡ lines)
 
--- whether the text added to a text is the line of a step, and whether `is_last` says correctly if that is the
--- last line of a trace that ends at the step `to`
+-- whether the text added to a text is the line of a step. `is_last` must be true if and only if this line
+-- is the last line of a trace that ends at the step `to`
 pub record IsLineAt (form : Form) (columns : List Column) (state : ℕ → State) (step to : ℕ)
     (is_last : Bool) (text text_after : List ℕ) : Type 0 where
   pub added : text_after ≡ text ++ row_of form columns step (state step) is_last
   pub last : is_last ≡ (nat_le to step || is_some (state step).core.stopped)
 
--- the effect of taking up to `most` lines: each is added to the text with a newline, the lines after them
--- remain, and the answer is whether any lines remain
+-- the effect of taking up to `most` lines: each line is added to the text with a newline, the lines after
+-- them remain, and `more` is whether any lines remain
 pub record TakesLines (state : ℕ → State) (most : ℕ) (old new : Progress) (text text_after : List ℕ)
     (more : Bool) : Type 0 where
   pub added : text_after ≡ text ++ newline_ended (take most (remaining state old))

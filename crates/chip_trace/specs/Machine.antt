@@ -9,14 +9,14 @@ use Rattle.chip_machine.specs.declared.quirks.Choice.{Choice}
 use Rattle.chip_machine.specs.declared.quirks.Quirks.{Quirks}
 use Rattle.chip_machine.specs.declared.quirks.TheConstants.{CHOICES}
 
--- the names of the choices that a machine has: among those of a list, and among all
+-- the names of the choices that a machine has: those in a list, and all of them
 abbrev pub names_in : List (List ℕ × Choice) → Quirks → List (List ℕ)
 names_in choices q = map (λ c. c.0) (filter (λ c. has_choice q c.1) choices)
 
 abbrev pub choice_names : Quirks → List (List ℕ)
 choice_names = names_in (map (λ c. (c.0.now, c.1)) CHOICES)
 
--- whether a trace has a line that names the profile: true except for the two that were the only profiles when the
+-- whether a trace has a line that names the profile: true except for the two profiles that existed when the
 -- first traces were written
 abbrev pub has_line : Profile → Bool
 has_line profile.Schip = false
@@ -39,7 +39,7 @@ named_lines None q = choice_lines q
 abbrev pub machine_lines : Quirks → List (List ℕ)
 machine_lines q = named_lines (profile_with q) q
 
--- whether a line names a machine, and therefore does not name columns
+-- whether a line names a machine, and so doesn't name columns
 abbrev pub names_machine : List ℕ → Bool
 names_machine line =
     starts_with nat_eq line (codes "# profile ") || starts_with nat_eq line (codes "# quirks ")

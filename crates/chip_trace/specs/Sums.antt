@@ -1,5 +1,5 @@
--- FNV-1a sums of 64 bits, and the bytes of a screen (FNV-1a is that of the draft by Fowler, Noll, Vo and
--- Eastlake; the order of the pixels was chosen by this project).
+-- FNV-1a sums of 64 bits, and the bytes of a screen. FNV-1a follows the draft by Fowler, Noll, Vo and
+-- Eastlake; this project chose the order of the pixels.
 use Rattle.std.specs.Prelude.{ℕ, ◌+◌, ◌*◌, ◌%◌, ◌^◌, Bool, if◌then◌else◌, bit_xor, List, map, fold}
 use Rattle.std.specs.List.{flat_map, range_with_len}
 use Rattle.chip_machine.specs.Points.{Points, is_lit}
@@ -16,7 +16,7 @@ fnv_step sum byte = bit_xor sum byte * 1099511628211 % 2 ^ 64
 abbrev pub fnv_of : List ℕ → ℕ
 fnv_of bytes = fold fnv_step fnv_basis bytes
 
--- the value of a bit: 1 if it is set, 0 if not
+-- the value of a bit: 1 if it is set, otherwise 0
 abbrev pub bit : Bool → ℕ
 bit is_set = if is_set then 1 else 0
 

@@ -1,7 +1,7 @@
--- Definitions for the proofs inside.
+-- Definitions that only proofs and private functions use.
 --     Codes      the encoding of a trace's progress as data
 --     Comparing  the progress of a comparison
---     Naming     the names of columns that are still to be read
+--     Naming     the names of columns that have not been read yet
 --     Rows       rows of a screen as numbers
 --     Usual      the first columns of a trace with the default columns
 pub mod Codes

@@ -25,9 +25,9 @@ pub enum Column {
     Delay,
     /// The sound timer, in two hexadecimal digits.
     Sound,
-    /// How many calls are open, in decimal.
+    /// The number of open calls, in decimal.
     Depth,
-    /// How many random bytes the machine has used, in decimal.
+    /// The number of random bytes that the machine has used, in decimal.
     Draws,
     /// The FNV-1a sum of the screen's pixels, in sixteen hexadecimal digits.
     Screen,
@@ -37,7 +37,7 @@ pub enum Column {
     Text,
 }
 
-/// The names of the registers' columns, one after another.
+/// The names of the registers' columns, one after the other.
 const REGISTER_NAMES: [u8; 32] = *b"v0v1v2v3v4v5v6v7v8v9vavbvcvdvevf";
 
 impl Column {
@@ -71,7 +71,7 @@ impl Column {
         name.eq_ignore_ascii_case(self.name())
     }
 
-    /// Whether a usual trace has this column at this place (from 0) among its first columns.
+    /// Whether a usual trace has this column at this index (from 0) among its first columns.
     #[tactic(auto, using(crate::proofs::Usual::usual_register), unfolding(crate::specs::inner::Usual::first_columns))]
     pub(crate) fn is_usual_at(self, place: usize) -> bool
         ensures { IsTrue result → slice_get first_columns place ≡ Some self }

@@ -18,7 +18,7 @@ use chip_machine::Quirks;
 use std::alloc::{AllocError, Global};
 use std::marker::Model;
 
-/// The columns of a trace, in their order.
+/// The columns of a trace, in order.
 #[derive(Drop)]
 pub struct Columns {
     columns: Vec<Column>,
@@ -41,7 +41,7 @@ impl Model for Columns {
 }
 
 impl Columns {
-    /// The default columns of a trace: all columns, but the two sums only if `sums` is true.
+    /// The default columns of a trace: all columns except the two sums, which are included only if `sums` is true.
     ///
     /// # Errors
     ///
@@ -65,13 +65,13 @@ impl Columns {
         Ok(Columns::of(columns))
     }
 
-    /// Reads the columns that a line names: a `#`, and the names with a space before each. The case of
-    /// letters is ignored.
+    /// Reads the columns that a line names: a `#`, and the names with a space before each name. Ignores the
+    /// case of letters.
     ///
     /// # Errors
     ///
-    /// The line does not begin with `# `, a name is not the name of a column, or `text` is not the last
-    /// column. If memory runs out, that error may replace another one.
+    /// The line doesn't start with `# `, a name isn't the name of a column, or `text` isn't the last
+    /// column. If memory runs out, that error may replace another error.
     pub fn read_header(alloc: Global, line: &[u8]) -> Result<Columns, HeaderError>
         ensures named { IfOk result (λ columns.
             header_line columns ≡ str_to_ascii_lowercase line.now) }
@@ -85,7 +85,7 @@ impl Columns {
         }
     }
 
-    /// A value that has these columns, in their order.
+    /// A value that contains these columns, in order.
     fn of(columns: Vec<Column>) -> Columns
         ensures { result ≡ columns.items }
     {
@@ -96,7 +96,7 @@ impl Columns {
         }
     }
 
-    /// The columns after the first columns of a usual trace; none if these columns don't begin with those.
+    /// The columns after the first columns of a usual trace; `None` if the columns don't start with those.
     pub(crate) fn after_usual(&self) -> Option<&[Column]>
         ensures { IfSome result (λ others. self.now ≡ first_columns ++ others.now) }
     {
@@ -106,7 +106,7 @@ impl Columns {
         self.columns.get(FIRST_COLUMNS..)
     }
 
-    /// The columns, in their order.
+    /// The columns, in order.
     pub fn as_slice(&self) -> &[Column]
         ensures { result.now ≡ self.now }
     {
@@ -133,12 +133,12 @@ impl Columns {
         Ok(())
     }
 
-    /// Adds the header lines of a trace of a machine in a form, which come before the lines of the
-    /// steps, each with a newline.
+    /// Adds the header lines of a trace of a machine in a form, each with a newline. The header lines come
+    /// before the lines of the steps.
     ///
     /// # Errors
     ///
-    /// Out of memory; part of the lines may have been added.
+    /// Out of memory; some of the lines may have been added.
     pub fn push_header_lines(
         &self,
         form: Form,
@@ -160,7 +160,7 @@ impl Columns {
     }
 }
 
-/// Whether columns begin with the first columns of a usual trace.
+/// Whether the columns start with the first columns of a usual trace.
 fn begins_as_usual(columns: &[Column]) -> bool
     ensures { IsTrue result → BeginsAsUsual columns.now }
 {

@@ -1,4 +1,4 @@
-//! The first place at which a trace differs from another one.
+//! The first line at which a trace differs from another trace.
 
 ghost use Rattle.std.specs.Prelude.{◌≡◌, ◌↔◌, ◌+◌, ◌<◌, ◌≤◌, ◌++◌, ◌∷◌, length, map, max, IsTrue, IfErr, IfOk, OnOk, Err, vec_len};
 ghost use Rattle.std.specs.Str.{str_to_ascii_lowercase};
@@ -15,26 +15,26 @@ use chip_machine::Machine;
 use chip_replay::{AtError, Replay};
 use std::alloc::{AllocError, Global};
 
-/// The first place at which two traces differ.
+/// The first line at which two traces differ.
 #[derive(Drop)]
 pub struct Difference {
-    /// The number of lines before it.
+    /// The number of lines before the difference.
     pub index: usize,
-    /// Our line there, if there is one.
+    /// Our line at the difference, if there is one.
     pub ours: Option<Vec<u8>>,
-    /// Their line there, if there is one.
+    /// Their line at the difference, if there is one.
     pub theirs: Option<Vec<u8>>,
-    /// Our last lines before it, at most five.
+    /// Our last lines before the difference, at most five.
     pub before: Vec<Vec<u8>>,
 }
 
-/// The first difference between the remaining lines of a trace and the lines of another trace that
-/// follow its header. The case of letters is ignored. A line ends with a newline, which the last line
-/// may lack, and a carriage return before the newline is not part of the line.
+/// The first difference between the remaining lines of a trace and the lines after the header of another
+/// trace. Ignores the case of letters. A line ends with a newline, which may be missing at the end of the
+/// last line. A carriage return before the newline is not part of the line.
 ///
 /// # Errors
 ///
-/// A step is above the last step that a replay answers, or memory ran out.
+/// A step is above the last step that a replay can reach, or memory ran out.
 pub fn first_difference(
     alloc: Global,
     replay: &mut Replay<Machine>,
@@ -91,7 +91,7 @@ pub fn first_difference(
     }))
 }
 
-/// Whether two lines are the same, ignoring the case of letters. Most are the same byte for byte.
+/// Whether two lines are equal, ignoring the case of letters. Most lines are equal byte for byte.
 fn are_alike(ours: &[u8], theirs: &[u8]) -> bool
     ensures test { IsTrue result
         ↔ (str_to_ascii_lowercase ours.now ≡ str_to_ascii_lowercase theirs.now) }
@@ -110,8 +110,8 @@ fn copied(alloc: Global, line: &[u8]) -> Result<Vec<u8>, AtError>
     Vec::from_slice(alloc, line).map_err(|_| AtError::OutOfMemory)
 }
 
-/// Appends a line to the kept lines, and returns an empty line. When all places are taken, the oldest
-/// kept line goes, and the returned line reuses its room.
+/// Appends a line to the kept lines, and returns an empty line. If `LINES_BEFORE` lines are already kept,
+/// the oldest of them is removed, and the returned line reuses its allocation.
 fn keep(alloc: Global, kept: &mut Vec<Vec<u8>>, line: Vec<u8>) -> Result<Vec<u8>, AtError>
     ensures kept { OnOk result (map bytes_of kept.new.items
         ≡ with_line (map bytes_of kept.old.items) line.items) }

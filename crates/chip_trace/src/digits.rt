@@ -8,7 +8,7 @@ ghost use Rattle.chip_trace.specs.Digits.{hex_byte, hex_word, hex_sum, spaced};
 use itoa::Buffer;
 use std::alloc::AllocError;
 
-/// The hexadecimal digit of a number below 16, by arithmetic alone, so that a compiler can make many at once.
+/// The hexadecimal digit of a number below 16. Uses only arithmetic, so that a compiler can vectorize it.
 #[inline(always)]
 #[tactic(auto, using(crate::proofs::DigitLemmas::hex_digit_is))]
 pub fn hex_digit(value: u8) -> u8
@@ -77,8 +77,8 @@ pub fn push_decimal(text: &mut Vec<u8>, number: u64) -> Result<(), AllocError>
     text.extend_from_slice(digits.format(number).as_bytes())
 }
 
-/// Adds a number of up to four digits in decimal. The digits are computed here, because digits that itoa
-/// has just written into its buffer are slow to copy.
+/// Adds a number of up to four digits in decimal. Computes the digits here, because copying digits that
+/// itoa has just written into its buffer is slow.
 #[inline(always)]
 fn push_short(text: &mut Vec<u8>, number: u16) -> Result<(), AllocError>
     requires { number < 10000 }
@@ -107,7 +107,7 @@ pub(crate) fn push_small(text: &mut Vec<u8>, number: u8) -> Result<(), AllocErro
     push_short(text, u16::from(number))
 }
 
-/// Adds bytes in hexadecimal, each after a space.
+/// Adds bytes in hexadecimal, with a space before each byte.
 ///
 /// # Errors
 ///
@@ -127,7 +127,7 @@ pub fn push_spaced_bytes(text: &mut Vec<u8>, bytes: &[u8]) -> Result<(), AllocEr
     Ok(())
 }
 
-/// Writes bytes in hexadecimal over spaces, and leaves one space before each byte.
+/// Overwrites spaces with bytes in hexadecimal, and leaves one space before each byte.
 #[inline(always)]
 pub(crate) fn write_spaced_bytes(bytes: &[u8], text: &mut [u8])
     requires { text.old ≡ replicate (3 * length bytes.now) 32 }

@@ -3,8 +3,8 @@
 /// How a line of a trace shows its columns.
 #[derive(Clone, Copy, PartialEq, Eq)]
 pub enum Form {
-    /// Fields with spaces between them, below a line that names the columns.
+    /// Fields separated by spaces, below a line that names the columns.
     Fields,
-    /// One JSON object per line, with a member for each column, by its name.
+    /// One JSON object per line, with a member for each column, under the column's name.
     Json,
 }

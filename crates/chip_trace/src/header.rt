@@ -1,4 +1,4 @@
-//! Reading the line that names the columns of a trace.
+//! Reading the line that names a trace's columns.
 
 ghost use Rattle.std.specs.Prelude.{◌≡◌, ◌<◌, ◌≤◌, ◌∷◌, ◌⊎◌, ◌-◌, Some, None, IfOk, IfErr, length, take};
 ghost use Rattle.std.specs.List.{find, list_any, position_or_len, slice_split};
@@ -12,13 +12,13 @@ use chip_lang::Reg;
 use std::alloc::Global;
 use thiserror::Error;
 
-/// Why a line does not name the columns of a trace.
+/// The reason why a line doesn't name the columns of a trace.
 #[derive(Clone, Copy, Debug, PartialEq, Eq, Error)]
 pub enum HeaderError {
-    /// The line is missing, or does not begin with a `#` and a space.
+    /// The line is missing, or doesn't start with a `#` and a space.
     #[error("its first line has to name its columns, as `# step pc v0 text` does")]
     NotAHeader,
-    /// The name at this position, counted from 1, is not the name of a column.
+    /// The name at this position, counted from 1, isn't the name of a column.
     #[error("column {0} has an unknown name; expected step, pc, word, v0 to vf, i, dt, st, depth, draws, screen, memory or text")]
     UnknownColumn(usize),
     /// Another column follows `text`.
@@ -29,7 +29,7 @@ pub enum HeaderError {
     OutOfMemory,
 }
 
-/// The columns other than those of the registers.
+/// The columns that aren't register columns.
 const OTHERS: [Column; 11] = [
     Column::Step,
     Column::Pc,
@@ -44,7 +44,7 @@ const OTHERS: [Column; 11] = [
     Column::Text,
 ];
 
-/// The columns that a line names, in their order.
+/// The columns that a line names, in order.
 pub(crate) fn read_header(alloc: Global, line: &[u8]) -> Result<Vec<Column>, HeaderError>
     ensures named { IfOk result (λ columns.
         header_line columns.items ≡ str_to_ascii_lowercase line.now) }
@@ -89,7 +89,7 @@ fn is_text(column: Column) -> bool
     matches!(column, Column::Text)
 }
 
-/// The first of some names, and the names after the next space, if there is one.
+/// The first of several names, and the names after the next space if there is a space.
 fn first_name(names: &[u8]) -> (&[u8], Option<&[u8]>)
     ensures names { slice_split is_space names.now ≡ result.0.now ∷ names_left result.1 }
     ensures shorter { bytes_left result.1 ≤ length names.now }
@@ -102,7 +102,7 @@ fn first_name(names: &[u8]) -> (&[u8], Option<&[u8]>)
     }
 }
 
-/// The number of bytes before the first space, or of all bytes if there is no space.
+/// The number of bytes before the first space, or the length if there is no space.
 fn name_length(names: &[u8]) -> usize
     ensures value { result ≡ position_or_len is_space names.now }
     ensures within { result ≤ length names.now }
@@ -125,14 +125,14 @@ fn column_of(name: &[u8]) -> Option<Column>
     }
 }
 
-/// The column with a name, if it is not the column of a register; ignores the case of letters.
+/// The column with a name, if it isn't a register column; ignores the case of letters.
 fn other_of(name: &[u8]) -> Option<Column>
     ensures { result ≡ find (is_named name.now) other_columns }
 {
     OTHERS.iter().copied().find(|column| column.is_named(name))
 }
 
-/// The column of the register with a name, ignoring the case of letters.
+/// The register column with a name, ignoring the case of letters.
 fn register_of(name: &[u8]) -> Option<Column>
     ensures { result ≡ find (is_named name.now) register_columns }
 {

@@ -12,7 +12,7 @@ use crate::line::{Workspace, push_field, word_of};
 use chip_machine::Machine;
 use std::alloc::AllocError;
 
-/// Enough bytes for most objects.
+/// A capacity that is enough for most objects.
 const OBJECT_ROOM: usize = 400;
 
 /// Adds the line of a step as a JSON object, without a newline. The line shows the state before the step.
@@ -44,7 +44,7 @@ pub(crate) fn push_object(
     push_others(text, workspace, others, machine, step, is_last)
 }
 
-/// Adds a comma and a member for each of some columns, and then the end of the object.
+/// Adds a comma and a member for each of the given columns, and then the end of the object.
 fn push_others(
     text: &mut Vec<u8>,
     workspace: &mut Workspace,
@@ -64,7 +64,7 @@ fn push_others(
     Ok(())
 }
 
-/// Adds a byte and a member: the name of a column in quotes, a colon, and what the column shows.
+/// Adds a byte and a member: a column's name in quotes, a colon, and the column's value.
 fn push_member(
     text: &mut Vec<u8>,
     before: u8,
@@ -83,7 +83,7 @@ fn push_member(
     push_value(text, workspace, *column, machine, step, is_last)
 }
 
-/// Adds the beginning of an object, with the first members of a usual trace.
+/// Adds the start of an object, with the first members of a usual trace.
 fn push_first_members(text: &mut Vec<u8>, machine: &Machine, step: u32) -> Result<(), AllocError>
     ensures { (is_last : Bool) → OnOk result (text.new.items ≡ text.old.items ++ 123 ∷
         join_with_byte 44
@@ -109,7 +109,7 @@ fn push_first_members(text: &mut Vec<u8>, machine: &Machine, step: u32) -> Resul
     Ok(())
 }
 
-/// Adds the members of V0 to VF, each after a comma.
+/// Adds the members of V0 to VF, with a comma before each member.
 fn push_register_members(text: &mut Vec<u8>, machine: &Machine) -> Result<(), AllocError>
     ensures { OnOk result (text.new.items ≡ text.old.items
         ++ flat_map (λ x. register_member x (slice_index machine.now.core.registers x))

@@ -15,15 +15,15 @@ use chip_lang::push_shown;
 use chip_machine::{Machine, Stop};
 use std::alloc::{AllocError, Global};
 
-/// Enough bytes for most lines.
+/// A capacity that is enough for most lines.
 const LINE_ROOM: usize = 160;
 
-/// The length of the fields from pc to the sound timer, which is the same in every line, with the spaces
-/// around them.
+/// The length of the fields from pc to the sound timer, including the spaces around them. The length is
+/// the same in every line.
 const FIXED_LEN: usize = 70;
 
-/// The screen and the memory that were summed last, with their sums, so that a sum is only recomputed
-/// after a change. The lines don't depend on the contents.
+/// The screen and the memory that were summed last, with their sums, so that a sum is recomputed only
+/// after a change. These contents don't affect the lines.
 #[derive(Drop)]
 pub(crate) struct Workspace {
     screen: SummedRows,
@@ -68,7 +68,7 @@ pub(crate) fn push_line(
     push_others(text, workspace, others, machine, step, is_last)
 }
 
-/// Adds a space and a field for each of some columns.
+/// Adds a space and a field for each of the given columns.
 fn push_others(
     text: &mut Vec<u8>,
     workspace: &mut Workspace,
@@ -100,8 +100,8 @@ fn push_first_fields(text: &mut Vec<u8>, machine: &Machine, step: u32) -> Result
     Ok(())
 }
 
-/// Adds the fields from pc to the sound timer, with spaces around them. The fields are written in
-/// place, because bytes that were just written elsewhere are slow to copy.
+/// Adds the fields from pc to the sound timer, with spaces around them. Writes the fields in place,
+/// because copying bytes that were just written elsewhere is slow.
 fn push_fixed_fields(text: &mut Vec<u8>, machine: &Machine) -> Result<(), AllocError>
     ensures { OnOk result (text.new.items ≡ text.old.items ++ fixed_fields machine.now) }
 {
@@ -111,7 +111,7 @@ fn push_fixed_fields(text: &mut Vec<u8>, machine: &Machine) -> Result<(), AllocE
     Ok(())
 }
 
-/// Writes the fields from pc to the sound timer over spaces, and leaves one space on each side of a field.
+/// Overwrites spaces with the fields from pc to the sound timer, and leaves a space on each side of a field.
 #[inline(always)]
 fn write_fixed_fields(machine: &Machine, fields: &mut [u8])
     requires { fields.old ≡ replicate FIXED_LEN 32 }
@@ -155,7 +155,7 @@ pub(crate) fn push_field(
     }
 }
 
-/// The word at pc, with zeros past the end of the memory.
+/// The word at pc. Bytes past the end of the memory count as 0.
 pub(crate) fn word_of(machine: &Machine) -> u16
     ensures { result ≡ word_of machine.now }
 {
@@ -166,7 +166,7 @@ pub(crate) fn word_of(machine: &Machine) -> u16
     u16::from(high) * 256 + u16::from(low)
 }
 
-/// Adds the instruction, or, in the last line, why the machine stopped.
+/// Adds the instruction or, in the last line, why the machine stopped.
 fn push_text(text: &mut Vec<u8>, machine: &Machine, is_last: bool) -> Result<(), AllocError>
     ensures { OnOk result (text.new.items ≡ text.old.items ++ text_of machine.now is_last) }
 {
@@ -176,7 +176,7 @@ fn push_text(text: &mut Vec<u8>, machine: &Machine, is_last: bool) -> Result<(),
     push_shown(text, word_of(machine))
 }
 
-/// Adds why a machine stopped, as `S` and a number, or `run` if it has not stopped.
+/// Adds why a machine stopped, as `S` and a number, or `run` if it hasn't stopped.
 fn push_stop_name(text: &mut Vec<u8>, stopped: Option<Stop>) -> Result<(), AllocError>
     ensures { OnOk result (text.new.items ≡ text.old.items ++ stop_name stopped) }
 {

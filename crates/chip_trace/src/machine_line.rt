@@ -13,15 +13,15 @@ const PROFILE: &[u8] = b"# profile ";
 
 const QUIRKS: &[u8] = b"# quirks ";
 
-/// Whether a line names a machine, and therefore does not name columns.
+/// Whether a line names a machine, and so doesn't name columns.
 pub fn names_machine(line: &[u8]) -> bool
     ensures { result ≡ names_machine line.now }
 {
     line.starts_with(PROFILE) || line.starts_with(QUIRKS)
 }
 
-/// Adds the line that names a machine, with a newline: its profile, or all its choices if it has no
-/// profile. Adds nothing for `schip` and `vip`.
+/// Adds the line that names a machine, with a newline. The line contains the machine's profile, or all
+/// its choices if it has no profile. Adds nothing for `schip` and `vip`.
 ///
 /// # Errors
 ///
@@ -41,7 +41,7 @@ pub(crate) fn push_machine(quirks: Quirks, text: &mut Vec<u8>) -> Result<(), All
     }
 }
 
-/// Adds the line that names a profile, with a newline; nothing for `schip` and `vip`.
+/// Adds the line that names a profile, with a newline. Adds nothing for `schip` and `vip`.
 fn push_profile(profile: Profile, text: &mut Vec<u8>) -> Result<(), AllocError>
     ensures { OnOk result (text.new.items
         ≡ text.old.items ++ newline_ended (profile_lines profile)) }
@@ -66,7 +66,7 @@ fn has_line(profile: Profile) -> bool
     }
 }
 
-/// Adds the names of the choices in a list that a machine has, with a comma between each two.
+/// Adds the names of the choices in a list that a machine has, separated by commas.
 fn push_choices(
     choices: &[(&str, Choice)],
     quirks: Quirks,

@@ -1,4 +1,4 @@
-//! A difference of two traces, as text.
+//! A difference between two traces, as text.
 
 ghost use Rattle.std.specs.Prelude.{◌≡◌, IfOk};
 ghost use Rattle.chip_trace.specs.Difference.{IsDifferenceText, ended_text};
@@ -9,9 +9,9 @@ use crate::difference::Difference;
 use itoa::Buffer;
 use std::alloc::{AllocError, Global};
 
-/// The text of a difference between traces that begin at the step `from`: its step, then the columns
-/// that differ or which of the two has ended, our lines before it, our line there after `< `, and their
-/// line there after `> `. Ours is the trace of a run, and theirs is the trace in a file.
+/// The text of a difference between traces that start at the step `from`. First comes the step, with the
+/// columns that differ or which trace has ended. Then come our lines before it, our line after `< `, and
+/// their line after `> `. Ours is the trace of a run, and theirs is the trace in a file.
 ///
 /// # Errors
 ///
@@ -38,7 +38,7 @@ pub fn difference_text(
     Ok(text)
 }
 
-/// The text after the step: a colon, and which of the traces has ended, if one has.
+/// The text after the step: a colon and, if one of the traces has ended, which one.
 fn ended_text(found: &Difference) -> &'static [u8]
     ensures { result.now ≡ ended_text found.now.ours found.now.theirs }
 {
@@ -49,8 +49,8 @@ fn ended_text(found: &Difference) -> &'static [u8]
     }
 }
 
-/// Adds the names of the columns whose fields differ, and the end of the line. The last field extends to
-/// the end of its line.
+/// Adds the names of the columns whose fields differ, and the end of the line. The last field extends
+/// to the end of its line.
 fn push_changed_names(
     text: &mut Vec<u8>,
     columns: &[Column],
@@ -72,8 +72,8 @@ fn push_changed_names(
     Ok(())
 }
 
-/// A note on which of two traces ends at these lines while the other one goes on; empty if neither or
-/// both end. The last line of a trace whose machine has not stopped ends with the text `run`.
+/// A note on which of two traces ends at these lines while its machine still runs; empty if neither or
+/// both do. The last line of a trace whose machine hasn't stopped ends with the text `run`.
 fn early_end(ours: &[u8], theirs: &[u8]) -> &'static [u8] {
     match (ours.ends_with(b"run"), theirs.ends_with(b"run")) {
         (false, true) => b" (the file ends here)",
@@ -90,7 +90,7 @@ fn is_same_field(ours: Option<&[u8]>, theirs: Option<&[u8]>) -> bool {
     }
 }
 
-/// Adds our lines before a difference, and both lines there.
+/// Adds our lines before a difference, and then both lines at the difference.
 fn push_lines(text: &mut Vec<u8>, found: &Difference) -> Result<(), AllocError> {
     for line in &found.before {
         push_marked(text, b"  ", line)?;

@@ -1,4 +1,4 @@
-//! FNV-1a sums of 64 bits. A sum is kept as long as its bytes stay the same.
+//! FNV-1a sums of 64 bits. A sum is kept until its bytes change.
 
 ghost use Rattle.std.specs.Prelude.{◌≡◌, fold, length, IsTrue, IfOk};
 ghost use Rattle.chip_trace.specs.Sums.{fnv_step, fnv_of, row_bytes, screen_bytes};
@@ -17,7 +17,7 @@ const PRIME: u64 = 0x100_0000_01b3;
 /// The number of rows of a screen.
 const HEIGHT: usize = 64;
 
-/// Bytes, and their sum.
+/// Bytes and their sum.
 #[derive(Drop)]
 pub(crate) struct Summed {
     bytes: Vec<u8>,
@@ -36,7 +36,7 @@ impl Model for Summed {
 }
 
 impl Summed {
-    /// No bytes.
+    /// An empty list of bytes, and its sum.
     pub(crate) fn new(alloc: Global) -> Self {
         Summed {
             bytes: Vec::new(alloc),
@@ -44,7 +44,7 @@ impl Summed {
         }
     }
 
-    /// The sum of these bytes. The bytes are kept for the next call.
+    /// The sum of these bytes. Keeps the bytes for the next call.
     ///
     /// # Errors
     ///
@@ -63,7 +63,7 @@ impl Summed {
     }
 }
 
-/// The sum of some bytes that follow bytes with the sum `sum`.
+/// The sum after some bytes are appended to bytes with the sum `sum`.
 fn fnv_after(sum: u64, bytes: &[u8]) -> u64
     ensures { result ≡ fold fnv_step sum bytes.now }
 {
@@ -83,7 +83,7 @@ fn fnv_step(sum: u64, byte: u8) -> u64
     (sum ^ u64::from(byte)).wrapping_mul(PRIME)
 }
 
-/// The stored rows of a screen, and the sum of their bytes.
+/// The stored rows of a screen and the sum of their bytes.
 #[derive(Drop)]
 pub(crate) struct SummedRows {
     rows: [u128; HEIGHT],
@@ -110,7 +110,7 @@ impl SummedRows {
         SummedRows { rows, sum }
     }
 
-    /// The sum of the pixels of a machine's screen. The rows are kept for the next call.
+    /// The sum of the pixels of a machine's screen. Keeps the rows for the next call.
     pub(crate) fn sum_of(&mut self, machine: &Machine) -> u64
         ensures { result ≡ fnv_of (screen_bytes machine.now.core.lit) }
     {
@@ -122,7 +122,7 @@ impl SummedRows {
     }
 }
 
-/// Replaces the rows by those of a machine's screen, and returns whether all were the same.
+/// Replaces the rows with those of a machine's screen, and returns whether every row was already equal.
 fn take_rows(rows: &mut [u128], machine: &Machine) -> bool
     requires { length rows.old ≡ HEIGHT }
     ensures shown { bytes_of_rows rows.new ≡ screen_bytes machine.now.core.lit }
@@ -139,15 +139,15 @@ fn take_rows(rows: &mut [u128], machine: &Machine) -> bool
     is_same
 }
 
-/// The pixels of a row of a machine's screen from the left, eight per byte; the leftmost pixel is the
-/// highest bit.
+/// The pixels of a row of a machine's screen, from the left, with eight pixels per byte. The leftmost
+/// pixel is the highest bit.
 pub fn row_bytes(machine: &Machine, row: usize) -> [u8; 16]
     ensures { result ≡ row_bytes machine.now.core.lit row }
 {
     machine.row(row).to_be_bytes()
 }
 
-/// The sum of the bytes of rows from the top, with the highest byte of each row first.
+/// The sum of the bytes of the rows, from the top, with the highest byte of each row first.
 fn sum_of_rows(rows: &[u128]) -> u64
     ensures { result ≡ fnv_of (bytes_of_rows rows.now) }
 {

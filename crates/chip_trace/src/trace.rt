@@ -1,4 +1,4 @@
-//! The lines of a trace, which are made one at a time.
+//! The lines of a trace, which are computed one at a time.
 
 ghost use Rattle.std.specs.Prelude.{◌≡◌, ◌<◌, ◌≤◌, ◌++◌, ◌↔◌, ℕ, false, max, IfOk, OnErr, OnOk, Err};
 ghost use Rattle.chip_machine.specs.State.{State};
@@ -14,7 +14,7 @@ use chip_replay::{AtError, LAST_STEP, Replay};
 use std::alloc::{AllocError, Global};
 use std::marker::Model;
 
-/// A trace, from the next line on.
+/// A trace whose next line is that of the step `next`.
 #[derive(Drop)]
 pub struct Trace<'a> {
     columns: &'a Columns,
@@ -44,7 +44,7 @@ impl<'a> Model for Trace<'a> {
 
 impl<'a> Trace<'a> {
     /// The trace of a run from the step `from` to the step `to`, or to the step at which the machine has
-    /// stopped. Each later call takes the replay of the run.
+    /// stopped, if that comes first. Each later call takes the replay of the run.
     pub fn new(alloc: Global, columns: &'a Columns, form: Form, from: u32, to: u32) -> Trace<'a>
         ensures value { result ≡ record {
           columns = columns.now;
@@ -66,12 +66,12 @@ impl<'a> Trace<'a> {
         }
     }
 
-    /// Adds the next line, without a newline, and returns whether there was one.
+    /// Adds the next line, without a newline, and returns whether there was a next line.
     ///
     /// # Errors
     ///
-    /// The next step is above the last step that a replay answers, or memory ran out, when part of the
-    /// line may have been added. The remaining lines are then as before.
+    /// The next step is above the last step that a replay can reach, or memory ran out. If memory ran out,
+    /// part of the line may have been added. The remaining lines don't change.
     pub fn next_line(
         &mut self,
         replay: &mut Replay<Machine>,
@@ -111,11 +111,11 @@ impl<'a> Trace<'a> {
         Ok(true)
     }
 
-    /// Adds up to `most` of the next lines, each with a newline, and returns whether more remain.
+    /// Adds up to `most` of the next lines, each with a newline, and returns whether more lines remain.
     ///
     /// # Errors
     ///
-    /// The errors of `next_line`. Lines before the one that failed may have been added.
+    /// The errors of `next_line`. The lines before the failed line may have been added.
     #[tactic(auto, using(crate::proofs::Comparing::same_runs))]
     pub fn push_lines(
         &mut self,

@@ -18,7 +18,7 @@ use Rattle.chip_machine.specs.State.{State}
 use Rattle.chip_machine.specs.declared.quirks.Quirks.{Quirks}
 use Rattle.chip_machine.specs.declared.stop.Stop.{Stop}
 
--- if no element passes, there is no first one that does
+-- if no element passes, there is no first element that passes
 pub no_position : {X : Type 0} (p : X → Bool) (xs : List X) → ((k : ℕ) (d : X) → k < length xs → p (get_or xs k d) ≡ false) → position p xs ≡ None
 no_position p [] none = refl
 no_position p (x ∷ xs) none =

@@ -1,4 +1,4 @@
--- The value of a sum of one term.
+-- The value of a sum with one term.
 use Rattle.std.proofs.Common.{◌≡◌, ◌+◌, ◌*◌, List, [], ◌∷◌, ap, arith, sum_by}
 use Rattle.chip_explore.specs.Property.{sum_in, value_in}
 use Rattle.chip_explore.specs.declared.property.Sum.{Sum}

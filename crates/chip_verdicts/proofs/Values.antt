@@ -1,4 +1,4 @@
--- Registers and bytes of the memory are small in the states of a row.
+-- Registers and bytes of the memory have bounded values in the states of a row.
 use Rattle.std.proofs.Common.{ℕ, ◌<◌, get_or, inl, inr, arith}
 use Rattle.std.proofs.lemmas.Bool.{cases_lt}
 use Rattle.std.proofs.lemmas.List.{get_or_past}

@@ -1,10 +1,10 @@
 -- Targets that are never met.
 -- Source: chosen by this project.
---     NeverMet        no state that the image comes to meets the target, whichever keys are down, whichever
---                     bytes are drawn, and whenever the timers tick
+--     NeverMet        no state that the image can reach meets the target, with any keys down, any random
+--                     bytes and any ticks of the timers
 --     AvoidsAll       the law: a target that is never met is avoided up to each step under each key script, at
 --                     any rate and with any tape of bytes
---     AvoidsAtAll     the law: the same at any speed
+--     AvoidsAtAll     the law: a target that is never met is also avoided up to each step at any speed
 use Rattle.std.specs.Prelude.{◌≡◌, ℕ, List, None}
 use Rattle.chip_machine.specs.State.{State}
 use Rattle.chip_machine.specs.Start.{start_of}

@@ -1,2 +1,2 @@
--- The meaning of private contracts: what is possible in the states of a row.
+-- The meaning of private contracts: the values and results that are possible in the states of a row.
 pub mod Possible

@@ -1,4 +1,4 @@
-//! Relations between two numbers of which only bounds are known.
+//! Relations between two numbers for which only bounds are known.
 
 ghost use Rattle.std.specs.Prelude.{◌≡◌, ◌==◌, ℕ, nat_lt};
 ghost use Rattle.chip_explore.specs.Property.{is_related};
@@ -7,7 +7,7 @@ ghost use Rattle.chip_verdicts.specs.inner.Possible.{IsPossible, IsWithin};
 use crate::possible::Possible;
 use chip_explore::Relation;
 
-/// Bounds of a number. The number may be equal to a bound.
+/// Bounds of a number, which may be equal to either bound.
 #[derive(Clone, Copy)]
 pub(crate) struct Bounds {
     pub(crate) least: u128,
@@ -25,7 +25,7 @@ impl Bounds {
         }
     }
 
-    /// Returns the possible results of the test whether a number is less than another one.
+    /// Returns the possible results of the test whether a number is less than another number.
     fn is_less(self, other: Bounds) -> Possible
         ensures { (a b : ℕ) → IsWithin self a → IsWithin other b → IsPossible result (nat_lt a b) }
     {

@@ -1,4 +1,4 @@
-//! Finds out which targets of a search the facts exclude.
+//! Determines which targets of a search the facts exclude.
 #![tactic(auto)]
 
 mod bounds;

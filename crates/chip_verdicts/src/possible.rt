@@ -1,4 +1,4 @@
-//! The possible results of a test, if several states are possible.
+//! The possible results of a test, given several possible states.
 
 ghost use Rattle.std.specs.Prelude.{◌&&◌, ◌||◌, Bool, not};
 ghost use Rattle.chip_verdicts.specs.inner.Possible.{IsPossible};
@@ -10,14 +10,14 @@ pub(crate) struct Possible {
     pub(crate) may_fail: bool,
 }
 
-/// No result, because there is no state.
+/// No result is possible, because there is no state.
 pub(crate) const NEITHER: Possible = Possible {
     may_hold: false,
     may_fail: false,
 };
 
 impl Possible {
-    /// Returns the results of the opposite test.
+    /// Returns the possible results of the negated test.
     pub(crate) fn negated(self) -> Possible
         ensures { (test : Bool) → IsPossible self test → IsPossible result (not test) }
     {
@@ -27,7 +27,7 @@ impl Possible {
         }
     }
 
-    /// Returns the results of the test whether both tests hold.
+    /// Returns the possible results of the test that both tests hold.
     pub(crate) fn and(self, other: Possible) -> Possible
         ensures { (one two : Bool) → IsPossible self one → IsPossible other two
             → IsPossible result (one && two) }
@@ -38,7 +38,7 @@ impl Possible {
         }
     }
 
-    /// Returns the results of the test whether at least one of both tests holds.
+    /// Returns the possible results of the test that at least one of two tests holds.
     pub(crate) fn or(self, other: Possible) -> Possible
         ensures { (one two : Bool) → IsPossible self one → IsPossible other two
             → IsPossible result (one || two) }
@@ -49,7 +49,7 @@ impl Possible {
         }
     }
 
-    /// Returns the results of a test in the states of both.
+    /// Returns the possible results of a test in the states of `self` and of `other`.
     pub(crate) fn united(self, other: Possible) -> Possible
         ensures first { (test : Bool) → IsPossible self test → IsPossible result test }
         ensures second { (test : Bool) → IsPossible other test → IsPossible result test }

@@ -11,7 +11,7 @@ use crate::possible::{NEITHER, Possible};
 use crate::view::View;
 use chip_explore::{Comparison, Condition, Item, Property, Relation, Sum, Term};
 
-/// Returns a factor times a value.
+/// Returns the product of a factor and a value.
 fn product(factor: u32, value: u16) -> u64
     ensures value { result ≡ factor * value }
     ensures small { result < 2 ^ 48 }
@@ -19,7 +19,7 @@ fn product(factor: u32, value: u16) -> u64
     u64::from(factor) * u64::from(value)
 }
 
-/// Returns the only term of a sum, or `None` if it hasn't exactly one.
+/// Returns the only term of a sum, or `None` if the sum doesn't have exactly one term.
 fn only_term(sum: &Sum) -> Option<&Term>
     ensures { IfSome result (λ term. sum.now.terms.items ≡ term.now ∷ []) }
 {
@@ -29,7 +29,7 @@ fn only_term(sum: &Sum) -> Option<&Term>
     }
 }
 
-/// Returns the first item that a comparison names, or `None` if it names none.
+/// Returns the first item in a comparison, or `None` if the comparison contains no item.
 fn first_item(comparison: &Comparison) -> Option<&Item> {
     match (&comparison.left.terms[..], &comparison.right.terms[..]) {
         ([term, ..], _) | (_, [term, ..]) => Some(&term.item),
@@ -70,8 +70,8 @@ impl View<'_> {
         }
     }
 
-    /// Returns the possible results of comparing a constant plus a term with a number, by trying each
-    /// value of the term's item.
+    /// Returns the possible results of comparing a number with the sum of a constant and a term, by trying
+    /// each value of the term's item.
     fn term_related(
         &self,
         constant: u32,
@@ -94,8 +94,8 @@ impl View<'_> {
         possible
     }
 
-    /// Returns the possible results of comparing two sums. If a side has only one term, tries each value
-    /// of its item.
+    /// Returns the possible results of comparing two sums. If a side has only one term, tries each value of
+    /// that term's item.
     fn sums_related(&self, left: &Sum, relation: Relation, right: &Sum) -> Possible
         ensures { (s : State) → IsSeen self.now s
             → IsPossible result (is_related relation (sum_in s left.now) (sum_in s right.now)) }
@@ -171,7 +171,7 @@ impl View<'_> {
         }
     }
 
-    /// Whether the condition of a property may hold or fail, whichever is wanted.
+    /// Whether the condition of a property may have the wanted result, which is to hold or to fail.
     fn may_be_wanted(&self, property: &Property) -> bool
         ensures { (s : State) → IsSeen self.now s → is_as_wanted s property.now ≡ true → IsTrue result }
     {
@@ -183,8 +183,8 @@ impl View<'_> {
         }
     }
 
-    /// Whether the condition of a property may hold or fail, whichever is wanted, while an item has one of
-    /// its values. Tries each value, so all comparisons that name the item are evaluated with the same value.
+    /// Whether the condition of a property may have the wanted result, for some value of an item. Tries each
+    /// value of the item, so that all comparisons that contain the item are evaluated with the same value.
     fn may_be_wanted_by(&self, property: &Property, item: &Item) -> bool
         ensures { (s : State) → IsSeen self.now s → is_as_wanted s property.now ≡ true → IsTrue result }
     {

@@ -16,7 +16,7 @@ use chip_explore::{Causes, Property, Target};
 use chip_facts::{Facts, Left, Row};
 
 /// Whether facts exclude a target: with any keys, any random bytes and any ticks, no state of the machine
-/// meets it. If the answer is `false`, the target may still never be met.
+/// meets the target. If the result is `false`, the target may still never be met.
 pub fn excludes(facts: &Facts, target: &Target<'_>) -> bool
     ensures { IsTrue result → (image : List ℕ) (quirks : Quirks)
         → HoldFacts image quirks facts.now → NeverMet image quirks target.now }
@@ -26,7 +26,7 @@ pub fn excludes(facts: &Facts, target: &Target<'_>) -> bool
         && !has_wanted(&facts.left, target.causes)
 }
 
-/// Whether the cause of one of these stops is wanted.
+/// Whether the cause of one of these stops is a wanted cause.
 fn has_wanted(left: &[Left], causes: Causes) -> bool
     ensures { result ≡ false → (pc : ℕ) (why : Stop)
         → Contains left.now (record { pc = pc; stop = why }) → is_wanted causes why ≡ false }
@@ -39,7 +39,7 @@ fn has_wanted(left: &[Left], causes: Causes) -> bool
     false
 }
 
-/// Whether no step is ever made at the address, or there is no address.
+/// Whether no step is ever executed at the address, or there is no address.
 fn is_never_at(executed: &[bool], address: Option<u16>) -> bool
     ensures { IsTrue result → (pc : ℕ) → is_among executed.now pc ≡ true → is_address address pc ≡ false }
 {
@@ -49,7 +49,7 @@ fn is_never_at(executed: &[bool], address: Option<u16>) -> bool
     }
 }
 
-/// Whether no state of any row meets any of these properties.
+/// Whether no state in any row meets any of these properties.
 fn are_unmet(facts: &Facts, properties: &[Property]) -> bool
     ensures { IsTrue result → (s : State) → Any (λ row. IsInRow facts.now row s) facts.now.rows.items
         → position (is_met s) properties.now ≡ None }
@@ -62,7 +62,7 @@ fn are_unmet(facts: &Facts, properties: &[Property]) -> bool
     true
 }
 
-/// Whether a state of some row may meet a property.
+/// Whether a state in some row may meet a property.
 fn may_meet(facts: &Facts, property: &Property) -> bool
     ensures { result ≡ false → (s : State) → Any (λ row. IsInRow facts.now row s) facts.now.rows.items
         → is_met s property.now ≡ false }
@@ -75,7 +75,7 @@ fn may_meet(facts: &Facts, property: &Property) -> bool
     false
 }
 
-/// Whether a state of a row may meet a property.
+/// Whether a state in a row may meet a property.
 fn may_meet_in(facts: &Facts, row: &Row, property: &Property) -> bool
     ensures { result ≡ false → (s : State) → IsInRow facts.now row.now s → is_met s property.now ≡ false }
 {

@@ -9,14 +9,14 @@ ghost use Rattle.chip_verdicts.specs.inner.Possible.{IsSeen};
 use chip_explore::Item;
 use chip_facts::{Facts, Row};
 
-/// An item with its value.
+/// An item and its value.
 #[derive(Clone, Copy)]
 pub(crate) struct Fixed {
     pub(crate) item: Item,
     pub(crate) value: u16,
 }
 
-/// The states of a row of the table of facts, or only those of them in which an item has one value.
+/// The states of a row of the table of facts, or only those of them in which an item has a fixed value.
 #[derive(Clone, Copy)]
 pub(crate) struct View<'f> {
     pub(crate) facts: &'f Facts,
@@ -26,7 +26,7 @@ pub(crate) struct View<'f> {
     pub(crate) fixed: Option<Fixed>,
 }
 
-/// Returns the view of a row, or `None` if its call stack is too deep for one.
+/// Returns the view of a row, or `None` if its call stack is too deep for a view.
 pub(crate) fn view_of<'f>(facts: &'f Facts, row: &'f Row) -> Option<View<'f>>
     ensures { (s : State) → IsInRow facts.now row.now s
         → MatchOption result (Unit {0}) (λ view. IsSeen view s) }
@@ -56,7 +56,7 @@ impl<'f> View<'f> {
         }
     }
 
-    /// Returns the value of an item, if it is fixed.
+    /// Returns the value of an item if it is fixed, or `None` if it isn't.
     fn fixed_value(&self, item: &Item) -> Option<u16>
         ensures { IfSome result (λ value. (s : State) → IsSeen self.now s → value_in s item.now ≡ value) }
     {
@@ -92,7 +92,7 @@ impl<'f> View<'f> {
         }
     }
 
-    /// Returns a number that the value of an item doesn't exceed in any state of the row.
+    /// Returns an upper bound of the value of an item in the states of the row.
     fn limit(&self, item: &Item) -> u16
         ensures { (s : State) → IsSeen self.now s → value_in s item.now ≤ result }
     {
@@ -106,7 +106,7 @@ impl<'f> View<'f> {
         }
     }
 
-    /// Returns a lower bound of the values of an item, by trying values from 0 up.
+    /// Returns a lower bound of the values of an item, by trying values upwards from 0.
     fn least_tried(&self, item: &Item) -> u16
         ensures { (s : State) → IsSeen self.now s → result ≤ value_in s item.now }
     {
@@ -118,7 +118,7 @@ impl<'f> View<'f> {
         u16::MAX
     }
 
-    /// Returns an upper bound of the values of an item, by trying values from its limit down.
+    /// Returns an upper bound of the values of an item, by trying values downwards from its limit.
     fn most_tried(&self, item: &Item) -> u16
         ensures { (s : State) → IsSeen self.now s → value_in s item.now ≤ result }
     {

@@ -1,4 +1,4 @@
--- Lines of data whose numbers are hexadecimal.
+-- Data lines with hexadecimal numbers.
 use Rattle.std.proofs.Common.{◌≡◌, ℕ, zero, suc, ◌+◌, ◌-◌, ◌/◌, ◌%◌, ◌<◌, ◌==◌, ◌&&◌, ◌++◌, Bool, true, List, [], ◌∷◌, length, take, take_all, map, inl, inr, refl, ap, ◌∙◌, arith, None}
 use Rattle.std.specs.Prelude.{codes, pos, if◌then◌else◌}
 use Rattle.std.specs.List.{list_all, prefix_len}
@@ -18,8 +18,8 @@ use Rattle.chip_lang.specs.Line.{Reading, reading_of, reading_of_tokens, lexeme_
 
 -- ---- digits
 
--- whether the digit for a number is a hexadecimal digit and a name byte, is visible, and has the number as its value; and whether
--- this is true for the first n numbers
+-- whether the digit for a number is a hexadecimal digit and a name byte, is visible, and has the number as its value;
+-- and whether this is true for all numbers below n
 abbrev is_good : ℕ → Bool
 is_good k = is_hexadecimal (hex_digit k) && (is_name_byte (hex_digit k) && (is_visible (hex_digit k) && (digit_value (hex_digit k) == k)))
 
@@ -65,7 +65,7 @@ run_of_all p (x ∷ xs) h =
     let ih = run_of_all p xs parts.1 in
     grind (arith, parts.0, ih)
 
--- bytes that belong to an earlier token give no tokens
+-- bytes that belong to an earlier token produce no tokens
 skipped : (place : ℕ) (xs : List ℕ) → tokens_from place (length xs) xs ≡ []
 skipped place [] = refl
 skipped place (x ∷ xs) = skipped (place + 1) xs
@@ -95,12 +95,12 @@ reading_by : (line : List ℕ) (t u : Token) → tokens_of line ≡ t ∷ u ∷ 
 unfolding reading_of
 reading_by line t u e r h = ap (λ ts. reading_of_tokens (map (lexeme_of line) ts)) e ∙ h
 
--- the kind of the token that digits make: the number that they state
+-- the kind of the token that digits form: a number with the value of the digits
 number_kind : (n : ℕ) → n < 65536 → (digits : List ℕ) → number_of 16 digits ≡ n → kind_of_number (number_of 16 digits) ≡ Number (pos n)
 number_kind n lt digits value =
     ap kind_of_number value ∙ ap (λ b. if b then Number (pos n) else Bad NumberTooLarge) (le-leb n 2147483647 (omega arith))
 
--- the token of a word of two letters at the front, and the token of a number from place 3 on
+-- the token of a word of two letters at the start, and the token of a number that starts at index 3
 abbrev word_token : Token
 word_token = record { kind = Word; start = 0; end = 2 }
 

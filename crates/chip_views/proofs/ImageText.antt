@@ -1,4 +1,4 @@
--- The source text that is made from an image opens, and its lines assemble to that image.
+-- The source text that is built from an image opens, and its lines assemble to that image.
 use Rattle.std.proofs.Common.{◌≡◌, ℕ, suc, ◌+◌, ◌*◌, ◌/◌, ◌%◌, ◌<◌, ◌≤◌, ◌&&◌, ◌++◌, Bool, true, false, List, [], ◌∷◌, length, map, None, Some, Result, Ok, Err, refl, sym, ap, subst, append_assoc, ◌∙◌, arith}
 use Rattle.std.specs.Prelude.{pos, codes, nat_le, nat_lt, fold, slice_index, if◌then◌else◌}
 use Rattle.std.specs.List.{list_all, position_or_len}
@@ -33,7 +33,7 @@ no_values : values_of [] ≡ no_names
 unfolding values_of
 no_values = refl
 
--- a line whose code is these two bytes, wherever the line is placed
+-- a line whose code is these two bytes, at every address
 record WordLine (line : List ℕ) (high low : ℕ) : Type 0 where
   body : Body
   reads : reading_of line ≡ read None body

@@ -1,10 +1,10 @@
--- Pieces of a text, one after another.
+-- Texts that consist of several pieces.
 use Rattle.std.proofs.Common.{◌≡◌, ℕ, ◌+◌, List, [], ◌∷◌, ◌++◌, sym, ap, ◌∙◌, zero-add, map, append_assoc}
 use Rattle.std.specs.List.{flat_map, range_with_len}
 use Rattle.std.proofs.lemmas.List.{map-id, flat_map_more}
 use Rattle.std.proofs.lemmas.List.FromFn.{map-range_with_len_more}
 
--- the numbers below n + 1 are those below n, and n
+-- the numbers below n + 1 are the numbers below n, and n
 pub below_one_more : (n : ℕ) → range_with_len 0 (n + 1) ≡ range_with_len 0 n ++ n ∷ []
 below_one_more n = simp map-id at (map-range_with_len_more (λ (k : ℕ). k) 0 n n (zero-add n))
 

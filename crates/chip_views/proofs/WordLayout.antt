@@ -23,9 +23,9 @@ use Rattle.chip_asm.specs.Layout.{Placed, body_of, is_if, is_if_body, is_end_bod
 use Rattle.chip_asm.specs.computed.Walk.{symbols, is_active, address, is_aligning, fault_of_value, first_fault, place, placed}
 use Rattle.chip_asm.specs.Program.{covers, byte_at, bytes_in_code, fault_in_code, numbered_fault, fault_of, unless_faulty, bytes_of_lines, image_of_lines}
 
--- ---- one line more
+-- ---- one more line
 
--- a statement with these bytes, which is placed at the present address whatever comes before it
+-- a statement with these bytes that is placed at the current address, whatever comes before the statement
 pub record Steady (aligning after : Bool) (body : Body) (bytes : List ℕ) : Type 0 where
   pub no_if : is_if_body body ≡ false
   pub no_side : is_side_or_end body ≡ false
@@ -83,11 +83,11 @@ abbrev EachGood : List Placed → Type 0
 EachGood [] = Unit {0}
 EachGood (p ∷ all) = Good p × EachGood all
 
--- the byte at an address, of the line that covers the address, if there are no names
+-- the byte at an address, in the line that covers the address, if there are no names
 abbrev byte_in : List Placed → ℕ → ℕ
 byte_in all at = option_map_or (λ (p : Placed). slice_index (bytes_in_code (own_bytes (body_of p.line) (values_of []))) (at - p.here)) (find (covers at) all) 0
 
--- lines that have these bytes so far, open no block, have no END and give no name
+-- lines that produce these bytes, leave no block open, contain no END and define no name
 pub record Built (aligning : Bool) (all : List Placed) (bytes : List ℕ) : Type 0 where
   good : EachGood all
   closed : open_blocks all ≡ []

@@ -11,13 +11,13 @@ use Rattle.chip_asm.specs.LineViews.{line_facts}
 use Rattle.chip_asm.specs.Listing.{row_by}
 use Rattle.chip_symbols.specs.declared.table.Symbol.{Symbol}
 
--- a number of 32 bits: four digits after the sign for hexadecimal, or eight digits if four aren't enough
+-- a 32-bit number: `#` and four hexadecimal digits, or eight digits if four aren't enough
 abbrev pub hex_number : ℕ → List ℕ
 hex_number n =
     codes "#"
     ++ (if nat_lt n 65536 then four_hex_digits n else four_hex_digits (n / 65536) ++ four_hex_digits (n % 65536))
 
--- a value in hexadecimal; a negative one is written as its magnitude after a minus sign
+-- a value in hexadecimal; a negative value is written as its magnitude after a minus sign
 unfoldable pub hex_value : ℤ → List ℕ
 hex_value value = (if is_negative value then codes "-" else []) ++ hex_number (unsigned_abs value)
 

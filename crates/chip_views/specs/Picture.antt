@@ -6,19 +6,19 @@ use Rattle.chip_machine.specs.State.{State}
 use Rattle.chip_views.specs.declared.picture.Letters.{Letters}
 use Rattle.chip_views.specs.declared.picture.Letters.TheVariants.{Blocks, Plain}
 
--- the number of pixels in a row and the number of rows, in the high size or the low one
+-- the number of pixels in a row and the number of rows, in the high or the low size
 abbrev pub width : Bool → ℕ
 width high = if high then 128 else 64
 
 abbrev pub height : Bool → ℕ
 height high = if high then 64 else 32
 
--- whether a pixel of the size is lit; a pixel of the low size is four stored pixels, and the upper left one decides
+-- whether a pixel is lit; a pixel of the low size is stored as four pixels, and the upper left of these counts
 abbrev pub is_seen : Bool → Points → ℕ → ℕ → Bool
 is_seen high lit column row =
     if high then is_lit lit column row else is_lit lit (2 * column) (2 * row)
 
--- the character for a pixel and the one below it
+-- the character for a pixel and the pixel below it
 unfoldable pub cell : Letters → Bool → Bool → List ℕ
 cell Blocks false false = codes " "
 cell Plain false false = codes " "

@@ -1,4 +1,4 @@
-//! A source text that is made from an image.
+//! A source text that is built from an image.
 
 ghost use Rattle.std.specs.Prelude.{◌≡◌, ◌≤◌, ◌<◌, ◌++◌, None, Some, IfOk, OnOk, length, codes};
 ghost use Rattle.std.specs.Str.Lines.{lines};
@@ -28,8 +28,8 @@ impl Names for NoNames {
 }
 
 /// Returns a source text for an image of at most 3,584 bytes. Each word becomes a line: the instruction that
-/// the word encodes, or else `DW #wwww`. An odd last byte becomes the lines `ALIGN OFF` and `DB #bb`. The
-/// text opens, has no fault, and assembles to the same image.
+/// the word encodes, or `DW #wwww` if there is none. An odd last byte becomes the lines `ALIGN OFF` and
+/// `DB #bb`. The text opens, has no fault, and assembles to the same image.
 ///
 /// # Errors
 ///
@@ -59,7 +59,7 @@ fn text_of_image(alloc: Global, image: &[u8]) -> Result<Vec<u8>, AllocError>
     Ok(text)
 }
 
-// Adds the line for a word, with a newline.
+// Appends the line for a word, with a newline.
 #[tactic(auto, unfolding(crate::specs::Dis::word_text))]
 fn push_word_line(alloc: Global, text: &mut Vec<u8>, word: u16) -> Result<(), AllocError>
     ensures { OnOk result (text.new.items ≡ text.old.items ++ line_text (word_text word)) }
@@ -74,21 +74,21 @@ fn push_word_line(alloc: Global, text: &mut Vec<u8>, word: u16) -> Result<(), Al
     Ok(())
 }
 
-// Whether a line is not too long and consists of letters, digits, signs and spaces only.
+// Whether a line isn't too long and consists of printable ASCII characters only.
 fn is_plain(text: &[u8]) -> bool
     ensures { result ≡ is_plain text.now }
 {
     text.len() <= LINE_BYTES && is_visible(text)
 }
 
-// Whether a text consists of letters, digits, signs and spaces only.
+// Whether a text consists of printable ASCII characters only.
 fn is_visible(text: &[u8]) -> bool
     ensures { result ≡ list_all is_visible text.now }
 {
     text.iter().all(|byte| 32 <= *byte && *byte <= 126)
 }
 
-// Whether a line has an instruction and no label, and the instruction's code is the given word.
+// Whether a line contains an instruction and no label, and the instruction's code is the given word.
 fn gives_word(alloc: Global, text: &[u8], word: u16) -> Result<bool, AllocError>
     ensures { IfOk result (λ gives. gives ≡ gives_word word (reading_of text.now)) }
 {
@@ -138,7 +138,7 @@ fn push_data_word(text: &mut Vec<u8>, word: u16) -> Result<(), AllocError>
     push_word(text, word)
 }
 
-/// Adds a word as four hexadecimal digits.
+/// Appends a word as four hexadecimal digits.
 pub(crate) fn push_word(text: &mut Vec<u8>, word: u16) -> Result<(), AllocError>
     ensures { OnOk result (text.new.items ≡ text.old.items ++ four_hex_digits word) }
 {
@@ -150,7 +150,7 @@ pub(crate) fn push_word(text: &mut Vec<u8>, word: u16) -> Result<(), AllocError>
     ])
 }
 
-// Adds the lines for an odd last byte.
+// Appends the lines for an odd last byte.
 fn push_byte_lines(text: &mut Vec<u8>, byte: u8) -> Result<(), AllocError>
     ensures { OnOk result (text.new.items
         ≡ text.old.items ++ line_text (codes "ALIGN OFF")

@@ -68,7 +68,7 @@ pub fn hex_listing(alloc: Global, source: &Source) -> Result<Vec<u8>, AllocError
     Ok(text)
 }
 
-/// Adds the row of the listing for a line of the source.
+/// Appends the row of the listing for a line of the source.
 fn push_row(alloc: Global, text: &mut Vec<u8>, line: &LineView<'_>) -> Result<(), AllocError>
     ensures { OnOk result (text.new.items ≡ text.old.items ++ row_by hex_value line.now) }
 {
@@ -80,7 +80,7 @@ fn push_row(alloc: Global, text: &mut Vec<u8>, line: &LineView<'_>) -> Result<()
     line.push_row(text, Some(&shown))
 }
 
-/// Adds a value in hexadecimal, as it is written in a source.
+/// Appends a value in hexadecimal, in the notation of a source.
 #[tactic(auto, unfolding(crate::specs::Hexadecimal::hex_value))]
 fn push_value(text: &mut Vec<u8>, value: i32) -> Result<(), AllocError>
     ensures { OnOk result (text.new.items ≡ text.old.items ++ hex_value value) }

@@ -6,17 +6,17 @@ ghost use Rattle.chip_views.specs.Picture.{is_seen, cell, cell_at, picture_line,
 use chip_machine::Machine;
 use std::alloc::{AllocError, Global};
 
-/// The kind of characters that show two pixels, one above the other.
+/// The kind of characters with which a picture shows two pixels, one above the other.
 #[derive(Clone, Copy, PartialEq, Eq)]
 pub enum Letters {
     /// The half blocks of Unicode, in UTF-8.
     Blocks,
-    /// A quote for the upper pixel, a full stop for the lower one, a colon for both.
+    /// A quote for the upper pixel, a full stop for the lower pixel, and a colon for both.
     Plain,
 }
 
-/// Returns the screen of a machine as text. A line shows two rows of pixels, and a character two pixels, one
-/// above the other: 16 lines of 64 characters in the low size, and 32 lines of 128 in the high one.
+/// Returns the screen of a machine as text. Each line shows two rows of pixels, and each character shows two
+/// pixels, one above the other: 16 lines of 64 characters in the low size, and 32 lines of 128 in the high size.
 ///
 /// # Errors
 ///
@@ -67,7 +67,7 @@ fn cell_at(machine: &Machine, letters: Letters, line: usize, column: usize) -> &
     cell(letters, above, below)
 }
 
-/// Whether a pixel is lit, in the machine's present size.
+/// Whether a pixel is lit, in the machine's current size.
 pub(crate) fn is_seen(machine: &Machine, column: usize, row: usize) -> bool
     requires { (column < 128) × (row < 64) }
     ensures { result ≡ is_seen machine.now.core.high machine.now.core.lit column row }
@@ -79,7 +79,7 @@ pub(crate) fn is_seen(machine: &Machine, column: usize, row: usize) -> bool
     }
 }
 
-// The character for a pixel and the one below it.
+// The character for a pixel and the pixel below it.
 #[tactic(auto, unfolding(crate::specs::Picture::cell))]
 fn cell(letters: Letters, above: bool, below: bool) -> &'static [u8]
     ensures { result.now ≡ cell letters above below }

@@ -1,4 +1,4 @@
--- From what is known at a line from the lines above it to what is known at the next line.
+-- How the flow at the next line follows from the flow at a line.
 use Rattle.std.proofs.Common.{◌≡◌, ◌∙◌, ◌&&◌, ◌||◌, ℕ, Bool, true, false, not, if◌then◌else◌, List, ◌∷◌, Some, ap, refl, sym}
 use Rattle.chip_warnings.specs.declared.flow.Flow.{Flow}
 use Rattle.chip_warnings.specs.declared.flow.Reach.{Reach}
@@ -38,7 +38,7 @@ module _ (jumped : ℕ → Bool) (above : List Seen) (s : Seen) (flow : Flow) (b
       past-bytes reach (ap has_bytes says)
       (reached ∙ ap (λ (f : Flow). reach_past (holds_of may_skip (base_before f.last s.address)) base (reach_at jumped f s)) before ∙ ap (reach_by jumped (flow_after jumped above) s) (sym says))
 
-  -- after other bytes
+  -- after a line with bytes that aren't an instruction
   pub after-others : (says : Says) → s.says ≡ says → (says ≡ Nothing → ⊥) → ((base word : ℕ) → says ≡ Code base word → ⊥) → record { last = Some s; begins = false; reach = Unsure; has_drawn = is_draw s.says || flow.has_drawn } ≡ flow_after jumped (s ∷ above)
   after-others Nothing is no_nothing no_code = absurd (no_nothing refl)
   after-others (Code base word) is no_nothing no_code = absurd (no_code base word refl)

@@ -20,7 +20,7 @@ or_assoc : (a b c : Bool) → ((a || b) || c) ≡ (a || (b || c))
 or_assoc true b c = refl
 or_assoc false b c = refl
 
--- some names are added, and then more
+-- adding some names and then more names adds all of them
 pub knows-more : (xs ys : List (List ℕ)) (old mid new : IndexSet (Vec ℕ) NameHasher) → Knows xs old mid → Knows ys mid new → Knows (xs ++ ys) old new
 knows-more xs ys old mid new these those q =
     those q
@@ -28,7 +28,7 @@ knows-more xs ys old mid new these those q =
     ∙ or_assoc (has old.keys q) (list_any (bytes_eq q) xs) (list_any (bytes_eq q) ys)
     ∙ ap (λ b. has old.keys q || b) (sym (list_any-append (bytes_eq q) xs ys))
 
--- no names are added
+-- adding no names changes nothing
 pub knows-none : (used : IndexSet (Vec ℕ) NameHasher) → Knows [] used used
 knows-none used q = none (has used.keys q)
   where
@@ -36,14 +36,14 @@ knows-none used q = none (has used.keys q)
     none true = refl
     none false = refl
 
--- one more of some names is added
+-- adding the next of some names
 pub knows-next : (words : List (List ℕ)) (i : ℕ) (word got : List ℕ) (old mid new : IndexSet (Vec ℕ) NameHasher) → i < length words → word ≡ get_or words i word → got ≡ word → Knows (take i words) old mid
     → Knows (got ∷ []) mid new → Knows (take (i + 1) words) old new
 knows-next words i word got old mid new low at same before step name =
     knows-more (take i words) (got ∷ []) old mid new before step name
     ∙ ap (λ ns. has old.keys name || list_any (bytes_eq name) ns) (ap (λ w. take i words ++ w ∷ []) (same ∙ at) ∙ sym (take_more words i word low))
 
--- the names that one line more uses
+-- the names that the lines up to and including the next one use
 pub names-next : (texts : List (List ℕ)) (i : ℕ) (text name : List ℕ) → slice_get texts i ≡ Some text
     → list_any (bytes_eq name) (flat_map names_of_line (take (i + 1) texts)) ≡ (list_any (bytes_eq name) (flat_map names_of_line (take i texts)) || list_any (bytes_eq name) (names_of_line text))
 names-next texts i text name at =

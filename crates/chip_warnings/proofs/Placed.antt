@@ -1,4 +1,4 @@
--- The warnings of one line more, and their places.
+-- The warnings of one more line, and their places.
 use Rattle.std.proofs.Common.{◌≡◌, ℕ, ◌≤◌, ◌-◌, ◌∙◌, List, [], ◌∷◌, ◌++◌, All, Some, length, get_or, slice_get, ap, sym, subst, append_assoc, arith}
 use Rattle.std.proofs.lemmas.List.{append-nil}
 use Rattle.std.proofs.lemmas.Option.{get_or_from_slice_get, slice_get_within}

@@ -15,7 +15,7 @@ use Rattle.chip_warnings.specs.Marked.{Marked, marked_by}
 use Rattle.chip_warnings.specs.Reach.{flow_after}
 use Rattle.chip_warnings.specs.Warned.{has_warning, is_property, kinds_after, kinds_on, kinds_told, warned_at}
 
--- one warning more
+-- adding one warning
 pub told-more : (old new : List Warning) (w : Warning) → new ≡ old ++ w ∷ [] → kinds_told new ≡ kinds_told old ++ kinds_told (w ∷ [])
 told-more old new w pushed =
     ap kinds_told pushed
@@ -45,7 +45,7 @@ pub and_right : (a b : Bool) → (a && b) ≡ true → b ≡ true
 and_right true b both = both
 and_right false b both = absurd (true≢false (sym both))
 
--- the warnings that were reported so far, with one kind more
+-- the warnings that were reported so far, with one more kind
 pub told-next : (number : ℕ) (test : WarningCode → Bool) (kinds : List WarningCode) (i : ℕ) (d : WarningCode) (base told later : List (ℕ × WarningCode)) (b : Bool) → i < length kinds
     → told ≡ base ++ map (λ k. (number, k)) (filter test (take i kinds)) → test (get_or kinds i d) ≡ b → later ≡ told ++ map (λ k. (number, k)) (cond b (get_or kinds i d ∷ []) [])
     → later ≡ base ++ map (λ k. (number, k)) (filter test (take (i + 1) kinds))
@@ -62,7 +62,7 @@ told-next number test kinds i d base told later b low before tested after =
 below-next : (n : ℕ) → range_with_len 0 (n + 1) ≡ range_with_len 0 n ++ n ∷ []
 below-next n = simp map-id at (map-range_with_len_more (λ (k : ℕ). k) 0 n n (zero-add n))
 
--- the warnings that were reported for the lines so far, with one line more
+-- the warnings that were reported for the lines so far, with one more line
 pub warned-next : (asked : Asked) (lines : List Seen) (place : ℕ) (s : Seen) (marked : Marked) (flow : Flow) (told later : List (ℕ × WarningCode)) → slice_get lines place ≡ Some s → marked ≡ marked_by lines
     → flow ≡ flow_after (marked_by lines).jumped (reverse (take place lines)) → told ≡ flat_map (warned_at asked lines) (range_with_len 0 place)
     → later ≡ told ++ map (λ kind. (place + 1, kind)) (kinds_on asked marked flow s) → later ≡ flat_map (warned_at asked lines) (range_with_len 0 (place + 1))

@@ -3,7 +3,7 @@ use Rattle.std.specs.Prelude.{Bool, true, false, not, ◌==◌, Option, Some}
 use Rattle.chip_lang.specs.declared.instr.Instr.{Instr}
 use Rattle.chip_lang.specs.declared.instr.Instr.TheVariants as instr
 
--- whether an instruction goes elsewhere than to the next one: JP, RET, EXIT
+-- whether an instruction goes somewhere other than to the next one: JP, RET, EXIT
 abbrev pub goes_elsewhere : Option Instr → Bool
 goes_elsewhere (Some (instr.Jump a)) = true
 goes_elsewhere (Some instr.Return) = true
@@ -26,7 +26,7 @@ leads_to_one (Some (instr.Jump a)) = true
 leads_to_one (Some (instr.Call a)) = true
 leads_to_one other = false
 
--- whether an instruction leads to one of 256 addresses, so that a table may follow it: JP V0
+-- whether an instruction leads to one of 256 addresses, so that a jump table may follow it: JP V0
 abbrev pub jumps_by_table : Option Instr → Bool
 jumps_by_table (Some (instr.JumpOffset a)) = true
 jumps_by_table other = false
@@ -36,19 +36,19 @@ abbrev pub points : Option Instr → Bool
 points (Some (instr.LoadIndex a)) = true
 points other = false
 
--- whether an instruction writes into the memory: LD B, Vx and LD [I], Vx
+-- whether an instruction writes to memory: LD B, Vx and LD [I], Vx
 abbrev pub stores : Option Instr → Bool
 stores (Some (instr.StoreDecimal x)) = true
 stores (Some (instr.StoreRegisters x)) = true
 stores other = false
 
--- whether an instruction makes a byte of random bits, some of which may be 1: RND, unless its mask is 0, because only bits of the
--- mask may be 1
+-- whether an instruction's random byte can be other than 0: RND with a mask other than 0, because only the bits of the
+-- mask can be 1
 abbrev pub draws : Option Instr → Bool
 draws (Some (instr.Random x mask)) = not (mask == 0)
 draws other = false
 
--- whether an instruction is one that SUPER-CHIP added: SCD, SCR, SCL, EXIT, LOW, HIGH, LD HF, LD R
+-- whether SUPER-CHIP added an instruction: SCD, SCR, SCL, EXIT, LOW, HIGH, LD HF, LD R
 abbrev pub is_super_instruction : Option Instr → Bool
 is_super_instruction (Some (instr.ScrollDown n)) = true
 is_super_instruction (Some instr.ScrollRight) = true

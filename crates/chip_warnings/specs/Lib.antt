@@ -3,9 +3,9 @@
 --     Warnings      the numbers of warnings, and their places in a source
 --     Seen          the parts of a line that matter to the lines around it
 --     Instructions  the effects of instructions that warnings depend on
---     Marked        the addresses that instructions name, and what for
+--     Marked        the addresses that instructions name, and the purpose of each
 --     Reach         the places that execution reaches
---     Warned        the warnings that each line has
+--     Warned        the warnings of each line
 pub mod Warnings
 pub mod Seen
 pub mod Instructions

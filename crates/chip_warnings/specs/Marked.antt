@@ -1,4 +1,4 @@
--- The addresses that the instructions of a source name, and what for (chosen by this project).
+-- The addresses that the instructions of a source name, and the purpose of each (chosen by this project).
 use Rattle.std.specs.Prelude.{ℕ, ◌+◌, ◌==◌, ◌&&◌, ◌||◌, not, Bool, if◌then◌else◌, nat_le, nat_lt, List, Option, Some, None}
 use Rattle.std.specs.List.{list_any}
 use Rattle.chip_lang.specs.declared.limits.TheConstants.{MEMORY_BYTES}
@@ -9,16 +9,16 @@ use Rattle.chip_lang.specs.Decoding.{decode_of}
 use Rattle.chip_warnings.specs.Instructions.{jumps_by_table, leads_to_one, points, stores}
 use Rattle.chip_warnings.specs.Seen.{base_of, holds_of, is_code, is_data, target_of}
 
--- whether an address is one of `count` addresses, from `first` on, and lies in the memory
+-- whether an address lies in memory and is one of the `count` addresses that start at `first`
 abbrev pub is_among : (first count address : ℕ) → Bool
 is_among first count address =
     nat_le first address && nat_lt address (first + count) && nat_lt address MEMORY_BYTES
 
--- the number of addresses that an instruction may go to, from the one in its word on: 1 for JP and CALL, 256 for JP V0, else 0
+-- the number of addresses that an instruction may go to: 1 for JP and CALL, 256 for JP V0, and otherwise 0
 abbrev pub places_jumped_to : (base : ℕ) → ℕ
 places_jumped_to base = if leads_to_one (decode_of base) then 1 else (if jumps_by_table (decode_of base) then 256 else 0)
 
--- the number of addresses that an instruction names as those of bytes: 1 for LD I, else 0
+-- the number of addresses that an instruction points at: 1 for LD I, and otherwise 0
 abbrev pub places_pointed_at : (base : ℕ) → ℕ
 places_pointed_at base = if points (decode_of base) then 1 else 0
 
@@ -27,7 +27,7 @@ abbrev pub places_named : Naming → (base : ℕ) → ℕ
 places_named Jump base = places_jumped_to base
 places_named Point base = places_pointed_at base
 
--- such a number for a line, which is 0 if the line isn't an instruction
+-- a number of addresses that depends on the instruction of a line; 0 if the line isn't an instruction
 abbrev pub places_of : (places : (base : ℕ) → ℕ) → Option ℕ → ℕ
 places_of places None = 0
 places_of places (Some base) = places base
@@ -41,11 +41,11 @@ names_at naming address s =
 abbrev pub is_store : Seen → Bool
 is_store s = holds_of stores (base_of s.says)
 
--- whether a line is data that begins at an address, and the address lies in the memory
+-- whether a line is data that begins at an address, and the address lies in memory
 abbrev pub is_data_at : (address : ℕ) → Seen → Bool
 is_data_at address s = is_data s.says && s.address == address && nat_lt address MEMORY_BYTES
 
--- whether a program has a store
+-- whether a program contains a store
 abbrev pub has_store : List Seen → Bool
 has_store lines = list_any is_store lines
 
@@ -64,7 +64,7 @@ pub record Marked : Type 0 where
   pub jumped : (address : ℕ) → Bool
   -- whether data begins at an address, and no store may write there
   pub data_at : (address : ℕ) → Bool
-  -- whether the program may write over its instructions
+  -- whether the program may overwrite its instructions
   pub writes_code : Bool
 
 abbrev pub marked_by : List Seen → Marked

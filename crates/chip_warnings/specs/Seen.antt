@@ -14,16 +14,16 @@ use Rattle.chip_warnings.specs.declared.seen.Says.{Says}
 use Rattle.chip_warnings.specs.declared.seen.Says.TheVariants.{Nothing, Code, Rows, PerhapsCode, Data}
 use Rattle.chip_warnings.specs.declared.seen.Seen.{Seen}
 
--- ---- the kind of bytes that a line has
+-- ---- the kind of a line's bytes
 
--- the word that the first two bytes make, or 0 if there are fewer
+-- the word formed by the first two bytes, or 0 if there are fewer
 abbrev pub first_word : List ℕ → ℕ
 first_word [] = 0
 first_word (a ∷ []) = 0
 first_word (high ∷ low ∷ bytes) = high * 256 + low
 
--- The kind of bytes that begin with a word, given their statement: an instruction, values of DB, or other data. SYS, the form
--- whose word is 0, might be executed, and so might a DW whose first word is that of an instruction. Both are `PerhapsCode`.
+-- The kind of bytes that begin with `word`, given their statement. SYS, the form whose word is 0, might be executed,
+-- and so might a DW whose first word is a valid instruction. Both are `PerhapsCode`.
 abbrev pub says_by_body : Body → (word : ℕ) → Says
 says_by_body (code form operands) word = if form.base == 0 then PerhapsCode else Code form.base word
 says_by_body (db values) word = Rows (length values)
@@ -32,13 +32,13 @@ says_by_body (da bytes) word = Data
 says_by_body (ds size) word = Data
 says_by_body body word = Nothing
 
--- the kind of bytes that a line has; `Nothing` if it has none
+-- the kind of a line's bytes; `Nothing` if the line has no bytes
 abbrev pub says_by_reading : Reading → (bytes : List ℕ) → Says
 says_by_reading (bad fault) bytes = Nothing
 says_by_reading (read name body) [] = Nothing
 says_by_reading (read name body) (b ∷ bytes) = says_by_body body (first_word (b ∷ bytes))
 
--- the kind of bytes that a line of a source has; `Nothing` if the line isn't active
+-- the kind of the bytes of a line in a source; `Nothing` if the line isn't active
 abbrev pub says_of : LineFacts → Says
 says_of f = if f.active then says_by_reading (reading_of f.text) f.bytes else Nothing
 
@@ -52,7 +52,7 @@ abbrev pub base_of : Says → Option ℕ
 base_of (Code base word) = Some base
 base_of says = None
 
--- whether an instruction is there, and a condition holds for it
+-- whether there is an instruction, and a condition holds for it
 abbrev pub holds_of : (holds : Option Instr → Bool) → Option ℕ → Bool
 holds_of holds None = false
 holds_of holds (Some base) = holds (decode_of base)
@@ -62,7 +62,7 @@ abbrev pub is_draw : Says → Bool
 is_draw (Code base word) = draws (decode_of word)
 is_draw says = false
 
--- the address in the instruction's word, or 0 if the bytes are no instruction
+-- the address in the instruction's word, or 0 if the bytes aren't an instruction
 abbrev pub target_of : Says → ℕ
 target_of (Code base word) = word % 4096
 target_of says = 0
@@ -98,8 +98,8 @@ abbrev pub names_asked : Reading → List (List ℕ)
 names_asked (bad fault) = []
 names_asked (read name body) = names_asked_by_body body
 
--- The names that a line uses, whether it is active or not: the names in its expressions, the name after IFDEF or IFUND, and the
--- names in the property that it states.
+-- The names that a line uses, whether the line is active or not: the names in its expressions, the name after IFDEF or
+-- IFUND, and the names in the property that the line states.
 abbrev pub names_of_line : List ℕ → List (List ℕ)
 names_of_line text =
     names_used (reading_of text) ++ (names_asked (reading_of text) ++ words_in text)
@@ -122,7 +122,7 @@ is_needless texts (Some name) = not (is_used texts name) && not (is_meant name)
 abbrev pub starts_image : LineFacts → Bool
 starts_image f = begins (reading_of f.text) && f.address == IMAGE_START
 
--- whether an active line gives a name that is never used; a label at the start of the image counts as used
+-- whether an active line defines a name that is never used; a label at the start of the image counts as used
 abbrev pub is_unused : (texts : List (List ℕ)) → LineFacts → Bool
 is_unused texts f =
     f.active && is_needless texts (name_defined (reading_of f.text)) && not (starts_image f)

@@ -1,4 +1,4 @@
--- The warnings that each line has (chosen by this project).
+-- The warnings of each line (chosen by this project).
 use Rattle.std.specs.Prelude.{ℕ, ◌+◌, ◌%◌, ◌==◌, ◌&&◌, not, Bool, true, false, List, [], ◌∷◌, length, map, filter, is_none, reverse, take, Option, Some, None, slice_get, slice_index_or}
 use Rattle.std.specs.List.{flat_map, range_with_len}
 use Rattle.std.specs.Borrow.{Bor}
@@ -20,29 +20,29 @@ use Rattle.chip_warnings.specs.Marked.{Marked, marked_by}
 use Rattle.chip_warnings.specs.Reach.{base_before, flow_after, reach_at}
 use Rattle.chip_warnings.specs.Warnings.{is_switched_off}
 
--- ---- each kind, at a line, given what is known from the lines above it
+-- ---- each kind of warning at a line, given the flow from the lines above it
 
 abbrev pub is_odd : ℕ → Bool
 is_odd n = n % 2 == 1
 
--- whether the bytes at `address` are those of a DB, exactly one byte after a DB with `above` values at `above_at`, and both have
--- an odd number of values
+-- whether a DB at `address` is exactly one byte after a DB with `above` values at `above_at`, and both have an odd
+-- number of values
 abbrev pub splits_after : (above_at above : ℕ) → (address : ℕ) → Says → Bool
 splits_after above_at above address (Rows count) =
     is_odd above && is_odd count && above_at + above + 1 == address
 splits_after above_at above address says = false
 
--- whether an earlier line and this one are DB with an odd number of values each, and one byte lies between them
+-- whether an earlier line and this line are both DB with an odd number of values, with exactly one byte between them
 abbrev pub splits_from : (above : Says) → (above_at : ℕ) → Seen → Bool
 splits_from (Rows above) above_at s = splits_after above_at above s.address s.says
 splits_from says above_at s = false
 
--- whether the last line with bytes and this one are such a pair
+-- whether `splits_from` holds for the last line with bytes and this line
 abbrev pub splits_by : (last : Option Seen) → Seen → Bool
 splits_by None s = false
 splits_by (Some last) s = splits_from last.says last.address s
 
--- W1: the line above and this one are DB with an odd number of values each, and one byte lies between them, but no label or ORG
+-- W1: this line and the line above are DB with odd numbers of values; one byte, but no label or ORG, is between them
 abbrev pub splits_rows : Flow → Seen → Bool
 splits_rows flow s = splits_by flow.last s && not flow.begins && not s.begins
 
@@ -56,27 +56,27 @@ abbrev pub is_coming : Reach → Bool
 is_coming Comes = true
 is_coming reach = false
 
--- whether no step is ever made at an address; false if it isn't known at which addresses steps may be made
+-- whether no step is ever executed at an address; false if the reachable addresses are unknown
 abbrev pub is_never_made : (reachable : Option (Bor (List Bool))) → (address : ℕ) → Bool
 is_never_made None address = false
 is_never_made (Some reachable) address = not (slice_index_or reachable.now address true)
 
--- W3: an instruction that neither the lines above nor jumps lead to, in a program that doesn't write over its instructions, where
--- no keys, random bytes and speed lead to a step
+-- W3: an instruction that neither the lines above nor jumps lead to, and at which no keys, random bytes and
+-- speed make the machine execute a step; the program doesn't overwrite its instructions
 abbrev pub is_unreachable : (reachable : Option (Bor (List Bool))) → Marked → Flow → Seen → Bool
 is_unreachable reachable marked flow s =
     is_code s.says && is_never (reach_at marked.jumped flow s) && not marked.writes_code
     && is_never_made reachable s.address
 
--- W4: data that execution reaches from the instruction directly before it, which isn't JP, RET or EXIT, in a program that doesn't
--- write over its instructions
+-- W4: data that execution reaches from the instruction directly before it, which isn't JP, RET or EXIT, in a program
+-- that doesn't overwrite its instructions
 abbrev pub falls_into_data : Marked → Flow → Seen → Bool
 falls_into_data marked flow s =
     is_data s.says && is_coming flow.reach
     && holds_of (λ instr. not (goes_elsewhere instr)) (base_before flow.last s.address)
     && not marked.writes_code
 
--- W5: JP or CALL to an address where data begins and no store may write
+-- W5: a JP or CALL to an address where data begins and where no store may write
 abbrev pub jumps_to_data : Marked → Seen → Bool
 jumps_to_data marked s =
     holds_of leads_to_one (base_of s.says)
@@ -92,7 +92,7 @@ abbrev pub is_not_in_profile : Quirks → Seen → Bool
 is_not_in_profile quirks s =
     not quirks.has_super_instructions && holds_of is_super_instruction (base_of s.says)
 
--- whether a line is an instruction at whose address no key script makes a step; false if no search was made
+-- whether a line is an instruction, and no key script executes a step at its address; false if no search was run
 abbrev pub is_left_out : Option Coverage → Seen → Bool
 is_left_out None s = false
 is_left_out (Some coverage) s =
@@ -104,8 +104,8 @@ draws_first flow s = is_draw s.says && not flow.has_drawn
 
 -- ---- all kinds
 
--- whether a line has a warning of a kind: W8 only without W3, and W9 only on the first line that draws a random byte, if no tape
--- is given
+-- Whether a line has a warning of a kind. A line has W8 only if it doesn't have W3. A line has W9 only if it is the
+-- first line that draws a random byte and no tape is given.
 abbrev pub has_warning : Asked → Marked → Flow → Seen → WarningCode → Bool
 has_warning asked marked flow s SplitRows = splits_rows flow s
 has_warning asked marked flow s UnusedName = s.unused
@@ -131,17 +131,17 @@ kinds_on asked marked flow s =
     filter
     (λ kind. not (is_switched_off asked.allowed kind) && has_warning asked marked flow s kind) kinds
 
--- the kinds of a line's warnings, if there is a line, given the lines above it
+-- the kinds of a line's warnings, given the lines above the line; empty if there is no line
 abbrev pub kinds_after : Asked → Marked → (above : List Seen) → Option Seen → List WarningCode
 kinds_after asked marked above None = []
 kinds_after asked marked above (Some s) = kinds_on asked marked (flow_after marked.jumped above) s
 
--- the kinds of the warnings that the line at a place has, where places are counted from 0
+-- the kinds of the warnings of the line at index `place`, counted from 0
 abbrev pub kinds_at : Asked → (lines : List Seen) → (place : ℕ) → List WarningCode
 kinds_at asked lines place =
     kinds_after asked (marked_by lines) (reverse (take place lines)) (slice_get lines place)
 
--- those kinds, each with the number of that line, counted from 1
+-- the kinds of the warnings of a line, each with the line's number, counted from 1
 abbrev pub warned_at : Asked → (lines : List Seen) → (place : ℕ) → List (ℕ × WarningCode)
 warned_at asked lines place = map (λ kind. (place + 1, kind)) (kinds_at asked lines place)
 
@@ -156,7 +156,7 @@ abbrev pub is_property : WarningCode → Bool
 is_property (Property code) = true
 is_property kind = false
 
--- the kinds of some warnings, without the warnings about properties, each with the number of its line
+-- the kinds of the given warnings, each with its line number, without the warnings about properties
 abbrev pub kinds_told : List Warning → List (ℕ × WarningCode)
 kinds_told warnings =
     map (λ (w : Warning). (w.line, w.code)) (filter (λ (w : Warning). not (is_property w.code)) warnings)

@@ -23,7 +23,7 @@ number_of_warning NeverExecuted = 8
 number_of_warning AlwaysZero = 9
 number_of_warning (Property code) = number_of_property_fault code
 
--- the place of a warning's bit in a set of warnings: k for Wk, and 9 + k for Pk
+-- the index of a warning's bit in a set of warnings: k for Wk, and 9 + k for Pk
 abbrev pub bit_of_warning : WarningCode → ℕ
 bit_of_warning (Property code) = 9 + number_of_property_fault code
 bit_of_warning code = number_of_warning code
@@ -32,7 +32,7 @@ bit_of_warning code = number_of_warning code
 abbrev pub is_switched_off : (allowed : ℕ) → WarningCode → Bool
 is_switched_off allowed code = allowed / 2 ^ bit_of_warning code % 2 == 1
 
--- a warning isn't switched off, and its place is one of these lines, at bytes inside that line
+-- a warning isn't switched off, its line is one of these lines, and its span lies inside that line
 pub record StandsIn (allowed : ℕ) (lines : List (List ℕ)) (w : Warning) : Type 0 where
   pub from_one : 1 ≤ w.line
   pub to_last : w.line ≤ length lines
@@ -42,14 +42,14 @@ pub record StandsIn (allowed : ℕ) (lines : List (List ℕ)) (w : Warning) : Ty
 
 -- The following two definitions are used only by the contracts of private functions.
 
--- a warning isn't switched off, and its place is the line with this number, at bytes inside that line
+-- a warning isn't switched off, its line has this number, and its span lies inside that line
 pub record StandsAt (allowed number : ℕ) (line : List ℕ) (w : Warning) : Type 0 where
   pub there : w.line ≡ number
   pub rises : w.span.start ≤ w.span.end
   pub inside : w.span.end ≤ length line
   pub told : is_switched_off allowed w.code ≡ false
 
--- the new warnings are the old ones followed by others, and P holds for each of those others
+-- the new warnings are the old warnings followed by additional ones, and P holds for each additional warning
 pub record Adds (P : Warning → Type 0) (old new : List Warning) : Type 0 where
   pub more : List Warning
   pub are : new ≡ old ++ more

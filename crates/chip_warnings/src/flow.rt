@@ -21,22 +21,22 @@ use chip_machine::Quirks;
 /// Whether execution reaches a place.
 #[derive(Clone, Copy)]
 pub(crate) enum Reach {
-    /// Execution comes there, from the instruction above or by a jump.
+    /// Execution reaches the place, from the instruction above or by a jump.
     Comes,
-    /// The instruction above goes elsewhere, and no jump leads there.
+    /// The instruction above goes elsewhere, and no jump leads to the place.
     Never,
-    /// Nothing is known.
+    /// The answer is unknown.
     Unsure,
 }
 
-/// Everything that is known at a line from the lines above it.
+/// The information about a line that comes from the lines above it.
 #[derive(Clone, Copy)]
 pub(crate) struct Flow {
     /// The last line with bytes.
     pub(crate) last: Option<Seen>,
-    /// Whether a label or ORG follows that line.
+    /// Whether a label or ORG follows the last line with bytes.
     begins: bool,
-    /// Whether execution reaches the place after that line.
+    /// Whether execution reaches the place after the last line with bytes.
     reach: Reach,
     /// Whether a line above draws a random byte.
     has_drawn: bool,
@@ -125,8 +125,8 @@ impl Flow {
         }
     }
 
-    /// Whether an address is two bytes after the last line with bytes, where the next one is if that line
-    /// is an instruction. Without such a line, whether the address is the start of the image.
+    /// Whether an address is two bytes after the start of the last line with bytes: the next address if that
+    /// line is an instruction. If there is no such line, whether the address is the start of the image.
     fn comes_next(&self, address: usize) -> bool
         ensures { result ≡ comes_next self.now.last address }
     {
@@ -149,7 +149,7 @@ impl Flow {
         }
     }
 
-    /// Whether a line has a warning of a kind.
+    /// Whether a line has a warning of the kind `code`.
     pub(crate) fn has(
         &self,
         code: WarningCode,
@@ -198,7 +198,7 @@ impl Flow {
         seen.says.is_draw() && !self.has_drawn
     }
 
-    /// Whether ALIGN puts a zero byte between the rows above and those of a line.
+    /// Whether ALIGN puts a zero byte between the rows above and the rows of a line.
     fn splits_rows(&self, seen: &Seen) -> bool
         ensures { result ≡ splits_rows self.now seen.now }
     {
@@ -221,7 +221,7 @@ impl Flow {
             && !marks.writes_code
     }
 
-    /// Whether an instruction is directly before an address and doesn't go elsewhere.
+    /// Whether an instruction that doesn't go elsewhere is directly before an address.
     fn is_run_past(&self, address: usize) -> bool
         ensures { result ≡ holds_of (λ instr. not (goes_elsewhere instr))
             (base_before self.now.last address) }
@@ -240,7 +240,7 @@ impl Flow {
     }
 }
 
-/// The number of the line of data to which a JP or CALL leads, or `None` if the line is no such instruction.
+/// The number of the data line to which a JP or CALL leads. `None` if `seen` isn't a JP or CALL to data.
 pub(crate) fn data_line(marks: &Marks, seen: &Seen) -> Option<usize>
     ensures { is_some result ≡ jumps_to_data (marked_in marks.now) seen.now }
 {

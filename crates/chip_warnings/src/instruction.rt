@@ -5,7 +5,7 @@ ghost use Rattle.chip_warnings.specs.Instructions.{draws, goes_elsewhere, is_sup
 
 use chip_lang::{Instr, decode};
 
-/// Whether an instruction goes elsewhere than to the next one: JP, RET, EXIT.
+/// Whether an instruction goes somewhere other than to the next one: JP, RET, EXIT.
 pub(crate) fn goes_elsewhere(base: u16) -> bool
     ensures { result ≡ goes_elsewhere (decode_of base) }
 {
@@ -39,7 +39,7 @@ pub(crate) fn leads_to_one(base: u16) -> bool
     matches!(decode(base), Some(Instr::Jump(_) | Instr::Call(_)))
 }
 
-/// Whether an instruction leads to one of 256 addresses, so that a table may follow it: JP V0.
+/// Whether an instruction leads to one of 256 addresses, so that a jump table may follow it: JP V0.
 pub(crate) fn jumps_by_table(base: u16) -> bool
     ensures { result ≡ jumps_by_table (decode_of base) }
 {
@@ -53,7 +53,7 @@ pub(crate) fn points(base: u16) -> bool
     matches!(decode(base), Some(Instr::LoadIndex(_)))
 }
 
-/// Whether an instruction writes into the memory: LD B, Vx and LD [I], Vx.
+/// Whether an instruction writes to memory: LD B, Vx and LD [I], Vx.
 pub(crate) fn stores(base: u16) -> bool
     ensures { result ≡ stores (decode_of base) }
 {
@@ -63,8 +63,7 @@ pub(crate) fn stores(base: u16) -> bool
     )
 }
 
-/// Whether a word is an instruction that makes a byte of random bits, some of which may be 1: RND with a mask
-/// other than 0.
+/// Whether a word is an instruction whose random byte can be other than 0: RND with a mask other than 0.
 pub(crate) fn draws(word: u16) -> bool
     ensures { result ≡ draws (decode_of word) }
 {
@@ -74,7 +73,7 @@ pub(crate) fn draws(word: u16) -> bool
     }
 }
 
-/// Whether an instruction is one that SUPER-CHIP added: SCD, SCR, SCL, EXIT, LOW, HIGH, LD HF, LD R.
+/// Whether SUPER-CHIP added an instruction: SCD, SCR, SCL, EXIT, LOW, HIGH, LD HF, LD R.
 pub(crate) fn is_super_instruction(base: u16) -> bool
     ensures { result ≡ is_super_instruction (decode_of base) }
 {

@@ -1,4 +1,4 @@
-//! The addresses that the instructions of a source name, and what for.
+//! The addresses that the instructions of a source name, and the purpose of each.
 
 ghost use Rattle.std.specs.Prelude.{◌≡◌, ◌<◌, ◌≤◌, ◌+◌, ◌&&◌, ◌||◌, ℕ, IfOk, length, nat_lt, slice_index, is_some};
 ghost use Rattle.std.specs.List.{list_any};
@@ -12,19 +12,19 @@ use crate::seen::Seen;
 use chip_lang::limits::MEMORY_BYTES;
 use std::alloc::{AllocError, Global};
 
-/// The addresses of the memory that the instructions of a source name, those where its data begins, and
-/// whether it writes into the memory.
+/// The memory addresses that the instructions of a source name, the addresses where the source's data
+/// begins, and whether the source writes to memory.
 #[derive(Drop)]
 pub(crate) struct Marks {
-    /// For each address, whether some JP or CALL goes there, or a JP V0 may go there.
+    /// For each address, whether a JP or CALL goes there, or a JP V0 may go there.
     jumped: Vec<bool>,
-    /// For each address, whether some `LD I, a` names it.
+    /// For each address, whether some `LD I, a` names that address.
     pointed: Vec<bool>,
     /// For each address, the number of the line of data that begins there, or 0 if none does.
     data: Vec<usize>,
-    /// Whether an instruction writes into the memory.
+    /// Whether an instruction writes to memory.
     writes: bool,
-    /// Whether the source may write over its instructions.
+    /// Whether the source may overwrite its instructions.
     pub(crate) writes_code: bool,
 }
 
@@ -54,8 +54,8 @@ impl Marks {
         is_set(&self.jumped, address)
     }
 
-    /// The number of the line of data that begins at an address, or `None` if there is none or the program
-    /// may have written there.
+    /// The number of the line of data that begins at an address. `None` if no data begins there, or if
+    /// the program may have written there.
     pub(crate) fn data_at(&self, address: usize) -> Option<usize>
         ensures { is_some result ≡ (marked_in self.now).data_at address }
     {
@@ -72,9 +72,9 @@ impl Marks {
 /// The purpose for which an instruction names addresses.
 #[derive(Clone, Copy)]
 pub(crate) enum Naming {
-    /// The instruction may go to them.
+    /// The instruction may go to the addresses.
     Jump,
-    /// The instruction points at bytes there.
+    /// The instruction points at bytes at the addresses.
     Point,
 }
 
@@ -102,7 +102,7 @@ fn places_of_data(alloc: Global, lines: &[Seen]) -> Result<Vec<usize>, AllocErro
     Ok(numbers)
 }
 
-/// Notes the number of a line at its address, if the line is data and the address lies in the memory.
+/// Stores the number of a line at the line's address, if the line is data and the address lies in memory.
 fn note_data(numbers: &mut [usize], number: usize, seen: &Seen)
     requires size { length numbers.old ≡ MEMORY_BYTES }
     requires counted { 0 < number }
@@ -115,7 +115,7 @@ fn note_data(numbers: &mut [usize], number: usize, seen: &Seen)
     }
 }
 
-/// The number of addresses that an instruction names for a purpose, from the one in its word on.
+/// The number of consecutive addresses that an instruction names for a purpose, starting at the address in its word.
 fn places_of(naming: Naming, seen: &Seen) -> usize
     ensures value { result ≡ places_of (places_named naming) (base_of seen.now.says) }
     ensures bound { result ≤ 256 }
@@ -128,14 +128,14 @@ fn places_of(naming: Naming, seen: &Seen) -> usize
     }
 }
 
-/// Whether some line is an instruction that writes into the memory.
+/// Whether some line is an instruction that writes to memory.
 fn has_store(lines: &[Seen]) -> bool
     ensures { result ≡ has_store lines.now }
 {
     lines.iter().any(is_store)
 }
 
-/// Whether a line is an instruction that writes into the memory.
+/// Whether a line is an instruction that writes to memory.
 fn is_store(seen: &Seen) -> bool
     ensures { result ≡ is_store seen.now }
 {
@@ -163,14 +163,14 @@ fn is_code_pointed(flags: &[bool], seen: &Seen) -> bool
         && (is_set(flags, seen.address) || is_set(flags, seen.address + 1))
 }
 
-/// Whether an address is flagged. Addresses past the last flag aren't.
+/// Whether an address is flagged. Addresses past the last flag aren't flagged.
 fn is_set(flags: &[bool], address: usize) -> bool
     ensures { result ≡ flag flags.now address }
 {
     address < flags.len() && flags[address]
 }
 
-/// Sets the flags of `count` addresses, from `first` on, as far as there are flags.
+/// Sets the flags of the `count` addresses that start at `first`, except for addresses past the last flag.
 fn mark(flags: &mut [bool], first: usize, count: usize)
     requires size { length flags.old ≡ MEMORY_BYTES }
     requires first { first < 4096 }

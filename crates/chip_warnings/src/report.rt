@@ -18,9 +18,9 @@ use chip_lang::Span;
 use chip_properties::{PropertyFault, properties_of};
 use std::alloc::{AllocError, Global};
 
-/// Returns the warnings of a source in the order of its lines, or none if a line has a fault. They include P1
-/// to P6, for properties that can't be read. The caller passes the `asked.coverage` and `asked.reachable` of
-/// the source's image.
+/// Returns the warnings of a source in the order of its lines, or no warnings if a line has a fault. The
+/// warnings include P1 to P6, which are about properties that can't be read. The caller must pass
+/// `asked.coverage` and `asked.reachable` for the source's image.
 ///
 /// # Errors
 ///
@@ -61,7 +61,7 @@ pub fn warnings(
     Ok(warnings)
 }
 
-/// Everything that the warnings of a line depend on, besides the line.
+/// Everything that the warnings of a line depend on, except the line itself.
 #[derive(Clone, Copy)]
 pub(crate) struct Judge<'a> {
     pub(crate) marks: &'a Marks,
@@ -130,8 +130,8 @@ impl<'a> Judge<'a> {
         })
     }
 
-    /// Adds the first of some faults of properties if it is on the line, and returns the faults that are
-    /// left, which are on later lines.
+    /// Adds the first of the property faults `faults` if that fault is on the line. Returns the
+    /// remaining faults, which are on later lines.
     #[tactic(auto, using(crate::proofs::Placed::adds_none))]
     fn push_fault_at<'b>(
         &self,
@@ -156,7 +156,7 @@ impl<'a> Judge<'a> {
         Ok(later)
     }
 
-    /// Adds the fault of a property on the line, unless warnings of its code are switched off.
+    /// Adds the fault of a property on the line, unless warnings with the fault's code are switched off.
     #[tactic(auto, using(crate::proofs::Placed::adds_none))]
     fn push_fault(
         &self,

@@ -11,16 +11,16 @@ use crate::instruction::draws;
 use chip_asm::LineView;
 use chip_lang::{Body, Line, decode};
 
-/// The kind of bytes that a line has.
+/// The kind of a line's bytes.
 #[derive(Clone, Copy)]
 pub(crate) enum Says {
     /// The line has no bytes.
     Nothing,
-    /// An instruction: `base` is the word of its form without operands, and `word` its own word.
+    /// An instruction: `base` is the word of its form without operands, and `word` is the instruction's own word.
     Code { base: u16, word: u16 },
     /// DB with this number of values.
     Rows(usize),
-    /// SYS, or DW whose first word is the word of an instruction.
+    /// SYS, or a DW whose first word is a valid instruction.
     PerhapsCode,
     /// Other data.
     Data,
@@ -34,7 +34,7 @@ impl Says {
         matches!(self, Says::Code { .. })
     }
 
-    /// The word of the instruction's form, or `None` if the bytes are no instruction.
+    /// The word of the instruction's form, or `None` if the bytes aren't an instruction.
     pub(crate) fn base(self) -> Option<u16>
         ensures { result ≡ base_of self }
     {
@@ -54,7 +54,7 @@ impl Says {
         }
     }
 
-    /// The address in the instruction's word, or 0 if the bytes are no instruction.
+    /// The address in the instruction's word, or 0 if the bytes aren't an instruction.
     pub(crate) fn target(self) -> usize
         ensures value { result ≡ target_of self }
         ensures bound { result < 4096 }
@@ -78,11 +78,11 @@ impl Says {
 pub(crate) struct Seen {
     /// The number of the line, counted from 1.
     pub(crate) number: usize,
-    /// The address of the line, or the one that it would have if it were active.
+    /// The address of the line. An inactive line has the address that it would have if it were active.
     pub(crate) address: usize,
     /// Whether the line is active and has a label or ORG.
     pub(crate) begins: bool,
-    /// Whether the line gives a name that is never used.
+    /// Whether the line defines a name that is never used.
     pub(crate) unused: bool,
     pub(crate) says: Says,
 }
@@ -95,8 +95,8 @@ impl Seen {
         address >= 2 && address - 2 == self.address
     }
 
-    /// Whether this line and the one below are DB with an odd number of values each, and one byte lies
-    /// between them.
+    /// Whether this line and `below` are both DB with an odd number of values, and exactly one byte
+    /// lies between them.
     pub(crate) fn splits(&self, below: &Seen) -> bool
         ensures { result ≡ splits_from self.now.says self.now.address below.now }
     {
@@ -131,7 +131,7 @@ fn is_begun_by(line: &Line) -> bool
     }
 }
 
-/// Returns the kind of bytes that a line has. A line that isn't active counts as one without bytes.
+/// Returns the kind of a line's bytes. An inactive line counts as a line without bytes.
 pub(crate) fn says_of(line: &LineView<'_>) -> Says
     ensures { result ≡ (if line.now.active
         then says_by_reading (reading_of line.now.text) line.now.bytes
@@ -143,7 +143,7 @@ pub(crate) fn says_of(line: &LineView<'_>) -> Says
     said(line.reading(), line.bytes())
 }
 
-/// Returns the kind of bytes that a line has, given its reading.
+/// Returns the kind of a line's bytes, given the parsed line.
 fn said(line: &Line, bytes: &[u8]) -> Says
     ensures { result ≡ says_by_reading (seen_line line.now) bytes.now }
 {
@@ -154,7 +154,7 @@ fn said(line: &Line, bytes: &[u8]) -> Says
     }
 }
 
-/// Returns the kind of a statement's bytes, given the word that they begin with.
+/// Returns the kind of a statement's bytes, given the word that the bytes begin with.
 fn said_by(body: &Body, word: u16) -> Says
     ensures { result ≡ says_by_body (seen_body body.now) word }
 {
@@ -171,7 +171,7 @@ fn said_by(body: &Body, word: u16) -> Says
     }
 }
 
-/// The word that the first two bytes make, or 0 if there are fewer.
+/// The word formed by the first two bytes, or 0 if there are fewer.
 fn first_word(bytes: &[u8]) -> u16
     ensures { result ≡ first_word bytes.now }
 {

@@ -1,4 +1,4 @@
-//! The survey of a source, which is made before its lines are judged.
+//! The survey of a source, which is built before the lines are checked for warnings.
 
 ghost use Rattle.std.specs.Prelude.{◌≡◌, ◌<◌, ◌∷◌, [], List, ℕ, IfOk, OnOk, Some, slice_get, vec_len};
 ghost use Rattle.chip_lang.specs.SeenLine.{seen_line};
@@ -19,7 +19,7 @@ use std::alloc::{AllocError, Global};
 /// Names in upper case.
 type Names = IndexSet<Vec<u8>, NameHasher>;
 
-/// The lines of a source, and the addresses that they name.
+/// The lines of a source, and the addresses that the lines name.
 #[derive(Drop)]
 pub(crate) struct Survey {
     lines: Vec<Seen>,
@@ -40,7 +40,7 @@ impl Survey {
         Ok(Survey { lines, marks })
     }
 
-    /// The line at a place, counted from 0.
+    /// The line at the index `place`, counted from 0.
     pub(crate) fn line(&self, place: usize) -> Seen
         requires { place < vec_len self.now.lines }
         ensures { slice_get self.now.lines.items place ≡ Some result }
@@ -63,7 +63,7 @@ fn names_of(alloc: Global, source: &Source) -> Result<Names, AllocError>
     Ok(used)
 }
 
-/// Adds the names that a line uses.
+/// Adds the names that a line uses to `used`.
 fn note_line(alloc: Global, used: &mut Names, line: &LineView<'_>) -> Result<(), AllocError>
     ensures { OnOk result (Knows (names_of_line line.now.text) used.old used.new) }
 {
@@ -76,7 +76,7 @@ fn note_line(alloc: Global, used: &mut Names, line: &LineView<'_>) -> Result<(),
     Ok(())
 }
 
-/// Adds the names in the expressions of a line.
+/// Adds the names in the expressions of a line to `used`.
 fn note_expressions(alloc: Global, used: &mut Names, line: &Line) -> Result<(), AllocError>
     ensures { OnOk result (Knows (names_used (seen_line line.now)) used.old used.new) }
 {
@@ -87,7 +87,7 @@ fn note_expressions(alloc: Global, used: &mut Names, line: &Line) -> Result<(), 
     Ok(())
 }
 
-/// Adds the name after the IFDEF or IFUND of a line, if it has one.
+/// Adds the name after the IFDEF or IFUND of a line to `used`, if the line has one.
 fn note_asked(alloc: Global, used: &mut Names, line: &Line) -> Result<(), AllocError>
     ensures { OnOk result (Knows (names_asked (seen_line line.now)) used.old used.new) }
 {
@@ -100,7 +100,7 @@ fn note_asked(alloc: Global, used: &mut Names, line: &Line) -> Result<(), AllocE
     }
 }
 
-/// Adds a name, unless it is there already.
+/// Adds a name to `used`, unless `used` already contains it.
 fn note_name(alloc: Global, used: &mut Names, name: &[u8]) -> Result<(), AllocError>
     ensures { OnOk result (Knows (name.now ∷ []) used.old used.new) }
 {
@@ -110,7 +110,7 @@ fn note_name(alloc: Global, used: &mut Names, name: &[u8]) -> Result<(), AllocEr
     Ok(())
 }
 
-/// Returns the lines of a source, given the names that it uses.
+/// Returns the lines of a source, given the names that the source uses.
 fn lines_of(alloc: Global, source: &Source, used: &Names) -> Result<Vec<Seen>, AllocError>
     requires { (name : List ℕ) → Has used.now name (is_used source.now.lines name) }
     ensures { IfOk result (λ lines. lines.items ≡ seen_lines source.now.lines) }
@@ -139,8 +139,8 @@ fn seen_of(line: &LineView<'_>, used: &Names) -> Seen
     }
 }
 
-/// Whether an active line gives a name that is never used and isn't meant to stay. A label at the start of
-/// the image counts as used.
+/// Whether an active line defines a name that is never used and isn't meant to stay. A label at the start
+/// of the image counts as used.
 fn is_unused(line: &LineView<'_>, used: &Names) -> bool
     ensures { (texts : List (List ℕ))
         → ((name : List ℕ) → Has used.now name (is_used texts name))

@@ -1,4 +1,4 @@
-//! The sentences of warnings, and their help.
+//! The sentences and the help of warnings.
 
 ghost use Rattle.std.specs.Prelude.{◌≤◌, length};
 
@@ -13,8 +13,8 @@ use chip_lang::{Fault, Span, show};
 use chip_machine::{Profile, Quirks};
 use std::alloc::{AllocError, Global};
 
-/// Returns a fault whose place is that of the warning: the name that the line defines, its operands, or the
-/// first word of its statement.
+/// Returns a fault with the same place as the warning: the name that the line defines, the line's operands,
+/// or the first word of its statement.
 pub(crate) fn fault_there(code: WarningCode) -> Fault {
     match code {
         WarningCode::UnusedName => Fault::DefinedTwice,
@@ -23,8 +23,8 @@ pub(crate) fn fault_there(code: WarningCode) -> Fault {
     }
 }
 
-/// Returns the sentence of a warning for a line. `seen` is what the survey has of the line, and `judge` knows
-/// the lines above it.
+/// Returns the sentence of a warning for a line. `seen` is the survey's record of the line, and `judge`
+/// describes the lines above the line.
 pub(crate) fn sentence(
     alloc: Global,
     code: WarningCode,
@@ -65,7 +65,7 @@ pub(crate) fn sentence(
     Ok(text.into_bytes())
 }
 
-/// Returns the sentence that says where a JP or CALL leads.
+/// Returns the sentence that states where a JP or CALL leads.
 fn jump_sentence(alloc: Global, seen: &Seen, marks: &Marks) -> Result<String, AllocError> {
     let name = match seen.says.base() {
         Some(base) if goes_elsewhere(base) => "JP",
@@ -75,13 +75,13 @@ fn jump_sentence(alloc: Global, seen: &Seen, marks: &Marks) -> Result<String, Al
     format!(in alloc; "{name} leads to data on line {target}")
 }
 
-/// Returns the sentence that says which odd address an instruction has.
+/// Returns the sentence that states the odd address of an instruction.
 fn odd_sentence(alloc: Global, seen: &Seen) -> Result<String, AllocError> {
     let address = seen.address;
     format!(in alloc; "an instruction at the odd address 0x{address:X}")
 }
 
-/// Returns the sentence that says which instruction the machine doesn't have.
+/// Returns the sentence that names an instruction that the machine doesn't have.
 fn missing_sentence(alloc: Global, seen: &Seen, quirks: Quirks) -> Result<String, AllocError> {
     let word = match seen.says {
         Says::Code { word, .. } => word,
@@ -97,8 +97,8 @@ fn missing_sentence(alloc: Global, seen: &Seen, quirks: Quirks) -> Result<String
     }
 }
 
-/// Returns the sentence that says up to which step no key script executes an instruction, or that none ever
-/// does.
+/// Returns the sentence about an instruction that no key script executes. The sentence includes the step up
+/// to which the search went, unless the search went to the end.
 fn never_sentence(alloc: Global, coverage: Option<Coverage<'_>>) -> Result<String, AllocError> {
     match coverage {
         Some(
@@ -111,7 +111,7 @@ fn never_sentence(alloc: Global, coverage: Option<Coverage<'_>>) -> Result<Strin
     }
 }
 
-/// Returns the help for a warning: what to write instead, or nothing.
+/// Returns the help for a warning: advice on what to write instead, or an empty text.
 pub(crate) fn help(code: WarningCode) -> &'static [u8] {
     match code {
         WarningCode::SplitRows => {

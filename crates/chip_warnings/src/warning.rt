@@ -61,7 +61,7 @@ impl WarningCode {
         }
     }
 
-    /// The place of the warning's bit in a set of warnings: k for Wk, and 9 + k for Pk.
+    /// The index of the warning's bit in a set of warnings: k for Wk, and 9 + k for Pk.
     fn bit(self) -> u32
         ensures value { result ≡ bit_of_warning self }
         ensures bound { result ≤ 15 }
@@ -104,6 +104,6 @@ pub struct Warning {
     pub code: WarningCode,
     /// The message: one sentence without a newline.
     pub sentence: Vec<u8>,
-    /// The text that says what to write instead, or nothing.
+    /// Advice on what to write instead; empty if there is none.
     pub help: Vec<u8>,
 }

@@ -1,4 +1,4 @@
--- The names that the walks of this crate cite.
+-- The names that the walks of this crate use.
 pub use mathlib.Core.Path.{◌≡◌, refl, sym, subst, ap, ◌∙◌}
 pub use mathlib.Core.List.{List, [], ◌∷◌, ◌++◌}
 pub use lib.Dec.{T, lit<}

@@ -31,7 +31,7 @@ owner = plain (λ _. Owner.the_row)
 abbrev pub allocator : Slot 0
 allocator = plain (λ _. Heap.the_row)
 
--- An option that has a value is `Some` of it.
+-- An option with a value is `Some` of that value.
 pub there : {A : Type 0} (option : Option A) → is_some option ≡ true → (value : A) × (option ≡ Some value)
 there None e = absurd (subst T (sym e) tt)
 there (Some value) e = (value, refl)

@@ -1,4 +1,4 @@
--- The settings that a host asks for, and the numbers that `session_open` returns (chosen by this project).
+-- The settings that a host requests, and the numbers that `session_open` returns (chosen by this project).
 use Rattle.std.specs.Prelude.{ℕ, ◌+◌, ◌==◌, List, length, Option, Some, None, option_and_then, unwrap_or, if◌then◌else◌}
 use Rattle.chip_asm.specs.Lines.{open_fault}
 use Rattle.chip_asm.specs.declared.refusal.OpenError.{OpenError}
@@ -14,7 +14,7 @@ use Rattle.chip_session.specs.declared.settings.SetError.TheVariants as unset
 use Rattle.chip_web.specs.declared.asked.AskedSettings.{AskedSettings}
 use Rattle.chip_web.specs.declared.status.TheConstants.{DONE, NO_MEMORY, RATE_OUT_OF_RANGE, TAPE_LENGTH, SPACING_OUT_OF_RANGE, UNKNOWN_PROFILE, UNKNOWN_QUIRKS, TOO_MANY_LINES, LINE_TOO_LONG}
 
--- the profile of a number, if there is one
+-- the profile with a number, if there is one
 abbrev pub profile_numbered : ℕ → Option Profile
 profile_numbered number =
     if number == 0 then Some Schip
@@ -25,11 +25,11 @@ profile_numbered number =
     else if number == 5 then Some Octo
     else None
 
--- quirks, except for the choices of a list, as `--quirks` takes it; an empty list has no choices
+-- quirks, changed by the choices in a list in the format of `--quirks`; an empty list contains no choices
 abbrev pub quirks_listed : List ℕ → Quirks → Option Quirks
 quirks_listed list q = if length list == 0 then Some q else with_choices list q
 
--- the quirks of the profile that is asked for, except for the choices of a list
+-- the quirks of the requested profile, changed by the choices in a list
 abbrev pub asked_quirks : AskedSettings → List ℕ → Option Quirks
 asked_quirks asked list =
     option_and_then (λ p. quirks_listed list (quirks p)) (profile_numbered asked.profile)
@@ -63,21 +63,21 @@ abbrev pub status_of_profile : Option Profile → List ℕ → ℕ
 status_of_profile None list = UNKNOWN_PROFILE
 status_of_profile (Some profile) list = status_of_list (quirks_listed list (quirks profile))
 
--- the number for the fault of the profile or of the list of quirks, or `DONE` without a fault
+-- the number for the fault of the profile or of the list of quirks, or `DONE` if there is no fault
 abbrev pub quirks_status : AskedSettings → List ℕ → ℕ
 quirks_status asked list = status_of_profile (profile_numbered asked.profile) list
 
 abbrev pub status_after : ℕ → ℕ → ℕ
 status_after status next = if status == DONE then next else status
 
--- the number for the first fault of the profile, the list of quirks, the rate and the tape, and the
--- spacing, in this order, or `DONE` without a fault
+-- the number for the first fault of the settings, or `DONE` if there is no fault; the order is: the
+-- profile, the list of quirks, the rate and the tape, the spacing
 abbrev pub asked_status : AskedSettings → (tape list : List ℕ) → ℕ
 asked_status asked tape list =
     status_after (quirks_status asked list)
     (status_of_settings (settings_fault asked.rate tape) (spacing_fault asked.spacing))
 
--- the settings that are asked for
+-- the requested settings
 abbrev pub asked_settings : AskedSettings → (tape list : List ℕ) → SessionSettings
 asked_settings asked tape list =
     record {
@@ -91,7 +91,7 @@ abbrev pub status_of_source : Option OpenError → ℕ
 status_of_source None = DONE
 status_of_source (Some fault) = source_status fault
 
--- the number for the first fault of the settings and the source, or `DONE` without a fault
+-- the number for the first fault of the settings and the source, or `DONE` if there is no fault
 abbrev pub open_status : AskedSettings → (tape list source : List ℕ) → ℕ
 open_status asked tape list source =
     status_after (asked_status asked tape list) (status_of_source (open_fault source))

@@ -10,7 +10,7 @@ use Rattle.std.specs.Global.{Global}
 use Rattle.std_heap.specs.contracts.GlobalAllocator.TheImpl.{ghosts}
 use Rattle.chip_web.specs.contracts.opened.Opened.{the_row}
 
--- An owner with a session owns what a box of the session owns, and an owner without one owns nothing.
+-- An owner with a session owns what a box of the session owns, and an owner without a session owns nothing.
 abbrev pub owns_session : Global → Ptr → Option the_row.Denot → Fml
 owns_session allocator pointer session = elim session [
   | None ↦ ftrue

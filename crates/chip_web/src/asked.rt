@@ -1,4 +1,4 @@
-//! The settings that a host asks for.
+//! The settings that a host requests.
 ghost use Rattle.std.specs.Prelude.{◌≡◌, ◌≢◌, ◌⊎◌, IfOk, IfErr, None, Some, Option};
 ghost use Rattle.chip_session.specs.Settings.{settings_fault};
 ghost use Rattle.chip_web.specs.Opening.{asked_quirks, asked_settings, asked_status, profile_numbered, quirks_listed, quirks_status};
@@ -9,7 +9,7 @@ use chip_machine::{Profile, Quirks};
 use chip_session::Settings;
 use std::alloc::Global;
 
-/// The settings of a host: the number of steps to a tick, the number of the profile, the number of
+/// The settings of a host: the number of steps per tick, the number of the profile, the number of
 /// steps between two checkpoints, and the seed for the hashes of names.
 #[repr(C)]
 #[derive(Clone, Copy)]
@@ -21,8 +21,8 @@ pub struct AskedSettings {
 }
 
 impl AskedSettings {
-    /// Returns these settings with a tape, and with a list of the quirks in which the machine differs
-    /// from the profile.
+    /// Returns these settings with a tape and with a list of quirks. The list contains the quirks in
+    /// which the machine differs from the profile.
     ///
     /// # Errors
     ///
@@ -44,8 +44,8 @@ impl AskedSettings {
         }
     }
 
-    /// Returns the quirks of the profile, except for the choices of a list. Fails with the number of the
-    /// fault if there is no such profile or the list is wrong.
+    /// Returns the quirks of the profile, changed by the choices in a list. Fails with the number of the
+    /// fault if there is no such profile or the list is invalid.
     fn quirks(&self, list: &[u8]) -> Result<Quirks, u32>
         ensures ok { IfOk result (λ quirks. (quirks_status self.now list.now ≡ DONE)
             × (asked_quirks self.now list.now ≡ Some quirks)) }
@@ -62,8 +62,8 @@ impl AskedSettings {
     }
 }
 
-/// Returns quirks, except for the choices of a list, or `None` if the list is wrong. An empty list has
-/// no choices.
+/// Returns quirks, changed by the choices in a list, or `None` if the list is invalid. An empty list
+/// contains no choices.
 fn listed(quirks: Quirks, list: &[u8]) -> Option<Quirks>
     ensures { result ≡ quirks_listed list.now quirks }
 {

@@ -1,4 +1,4 @@
-// The handle by which a host keeps a session.
+// The handle in which a host stores a session.
 ghost use Rattle.std.specs.Prelude.{◌≡◌, None, Some, is_some, true, option_map};
 
 use crate::opened::Opened;
@@ -7,7 +7,7 @@ use crate::raw_box::RawBox;
 use std::alloc::Global;
 use std::mem::replace;
 
-/// A session, or none. A handle has 16 bytes, which are all zero if there is no session.
+/// A session, or none. A handle takes up 16 bytes, which are all zero if there is no session.
 #[repr(C)]
 #[derive(Drop)]
 pub struct Handle {

@@ -21,9 +21,9 @@ use handle::Handle;
 use opened::Opened;
 use status::{DONE, NO_MEMORY, NO_SESSION};
 
-/// Opens a session on a source, in place of any session that the handle has. `list` has the quirks in
-/// which the machine differs from the profile, as `--quirks` takes them, or is empty. Returns `DONE`,
-/// or the number of the fault, and then the handle has no session.
+/// Opens a session on a source and replaces the session of the handle, if there is one. `list`
+/// contains the quirks in which the machine differs from the profile, in the format of `--quirks`, or
+/// is empty. Returns `DONE`, or the number of the fault. After a fault, the handle has no session.
 #[unsafe(no_mangle)]
 pub extern "C" fn session_open(
     alloc: Global,
@@ -50,7 +50,7 @@ pub extern "C" fn session_open(
     }
 }
 
-// Returns the session that is asked for, on the heap, or the number of the fault.
+// Opens the requested session and returns it on the heap, or returns the number of the fault.
 fn boxed(
     alloc: Global,
     source: &[u8],
@@ -76,9 +76,9 @@ fn boxed(
     }
 }
 
-/// Carries out one line of a script, given without its newline. Returns `DONE`, and `session_read` then
-/// has the answer; `NO_SESSION` if the handle has none; or `NO_MEMORY` if memory ran out, and then the
-/// session is either as after the line or as before it.
+/// Executes one line of a script, given without its newline. Returns `DONE` if `session_read` can read
+/// the answer now, `NO_SESSION` if the handle has no session, or `NO_MEMORY` if memory ran out. After
+/// `NO_MEMORY`, the session is either in the state before the line or in the state after the line.
 #[unsafe(no_mangle)]
 pub extern "C" fn session_answer(alloc: Global, handle: &mut Handle, line: &[u8]) -> u32
     ensures { Answers result handle.old.owner.session line.now handle.new.owner.session }
@@ -94,8 +94,8 @@ pub extern "C" fn session_answer(alloc: Global, handle: &mut Handle, line: &[u8]
     status
 }
 
-/// Copies the bytes of the last answer from a place on, as many as there is room for. Returns how many
-/// bytes the answer has from that place on, or 0 without a session.
+/// Copies the bytes of the last answer from index `from` on, as many as `room` can hold. Returns the
+/// number of bytes in the answer from that index on, or 0 if there is no session.
 #[unsafe(no_mangle)]
 pub extern "C" fn session_read(
     alloc: Global,

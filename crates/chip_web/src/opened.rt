@@ -15,11 +15,11 @@ pub struct Opened {
 }
 
 impl Opened {
-    /// Opens a session on a source, with no answer yet.
+    /// Opens a session on a source. The session has no answer yet.
     ///
     /// # Errors
     ///
-    /// The first line that is one too many or too long, or out of memory.
+    /// The first line that is too long or exceeds the maximum number of lines, or out of memory.
     pub fn open(alloc: Global, source: &[u8], settings: Settings) -> Result<Opened, OpenError>
         ensures ok { IfOk result (λ opened. (open_fault source.now ≡ None)
             × (opened.bench.session ≡ session_of settings source.now)) }
@@ -32,11 +32,11 @@ impl Opened {
         })
     }
 
-    /// Carries out one line of a script, and keeps the answer to it.
+    /// Executes one line of a script, and stores the answer to the line.
     ///
     /// # Errors
     ///
-    /// Out of memory; the session is then either as after the line or as before it.
+    /// Out of memory. The session is then either in the state before the line or in the state after the line.
     pub fn carry_out(&mut self, alloc: Global, line: &[u8]) -> Result<(), AllocError>
         ensures answer { OnOk result (self.new.answer.items
             ≡ reply self.old.bench.session line.now) }

@@ -1,5 +1,5 @@
-// A session on the heap, or none, behind a pointer to bytes instead of a session, because the type of
-// an argument of an export may not lead to a vector.
+// A session on the heap, or none. The pointer points to bytes instead of a session, because no
+// vector may be reachable from the type of an export's argument.
 ghost use Rattle.std.specs.Prelude.{◌≡◌, None, Some, is_some, true};
 ghost use Rattle.std.specs.declared.option.Option.{Option};
 ghost use Rattle.chip_web.specs.declared.opened.Opened.{Opened};
@@ -11,8 +11,8 @@ use std::alloc::Global;
 use std::marker::Model;
 use std::ptr::null_mut;
 
-// The owner of a session, or of none. Dropping an owner frees nothing: a handle takes the session out
-// before it drops its owner.
+// The owner of a session, or of none. Dropping an owner frees no memory, because a handle takes the
+// session out before it drops its owner.
 #[repr(C)]
 #[derive(Drop)]
 pub struct Owner {

@@ -1,4 +1,4 @@
-// A box that is taken apart into its pointer and its allocator.
+// A box that is split into its pointer and its allocator.
 ghost use Rattle.std.specs.Prelude.{◌≡◌};
 ghost use Rattle.std.specs.Box.Ownership.{box_owns};
 

@@ -23,7 +23,7 @@ pub const TAPE_LENGTH: u32 = 4;
 /// The spacing of checkpoints is out of range.
 pub const SPACING_OUT_OF_RANGE: u32 = 5;
 
-/// No profile has the number.
+/// No profile has this number.
 pub const UNKNOWN_PROFILE: u32 = 6;
 
 /// The source has too many lines.
@@ -32,7 +32,7 @@ pub const TOO_MANY_LINES: u32 = 7;
 /// The list of quirks can't be read, or names a quirk twice.
 pub const UNKNOWN_QUIRKS: u32 = 8;
 
-/// A line of the source is too long. The number of the line, from 1, is added to this number.
+/// A line of the source is too long. The number of the line, counted from 1, is added to this number.
 pub const LINE_TOO_LONG: u32 = 1000;
 
 /// Returns the number for a fault of settings.

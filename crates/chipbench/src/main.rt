@@ -9,8 +9,8 @@ use std::random::RandomSource;
 use std::rt::Env;
 use std::{env, io};
 
-/// The number of bytes of stack that the program takes at the start: as many as a search needs, which
-/// needs the most, and some more.
+/// The number of bytes of stack that the program reserves at the start: enough for a search, which
+/// needs the most, plus a margin.
 const STACK_BYTES: usize = 393_216;
 
 fn main(rt: HostRuntime) -> ExitCode {
@@ -44,10 +44,10 @@ fn main(rt: HostRuntime) -> ExitCode {
     ExitCode::from(status)
 }
 
-// Takes stack from the system while the program can still report that it is out of memory. If the stack can't
-// grow, as under a limit of the address space, a signal ends the program. The function therefore allocates and
-// frees as much memory first, so that there is room for the stack. The system writes to both, so neither is
-// optimized away.
+// Reserves stack while the program can still report that it is out of memory. If the stack can't
+// grow, as under a limit on the address space, a signal ends the program. The function therefore
+// first allocates and frees the same amount of memory, so that there is room for the stack. The
+// system writes to both areas, so neither is optimized away.
 fn reserve_stack(rt: &(impl RandomSource + AllocGlobal)) -> io::Result<()> {
     let mut room = Vec::with_capacity(rt.alloc(), STACK_BYTES)?;
     room.push(0)?;
@@ -63,8 +63,8 @@ fn touch_stack(rt: &impl RandomSource) {
     let _ = rt.fill_bytes(&mut stack[..1]);
 }
 
-// The number of bytes of output that may be held back. The number is 0 if someone may wait for an answer
-// before giving the next command, as at a terminal or over a pipe. Nobody waits if the input is a file.
+// The number of bytes of output that may be buffered: 0 if someone may wait for an answer before
+// sending the next command, as at a terminal or over a pipe. Nobody waits if the input is a file.
 fn held_bytes(rt: &impl Files) -> usize {
     match rt.metadata("/dev/stdin") {
         Ok(input) if input.is_file() => 65536,
@@ -72,7 +72,7 @@ fn held_bytes(rt: &impl Files) -> usize {
     }
 }
 
-// Returns a seed that nobody knows, or 0 if the system gives none. No answer depends on the seed.
+// Returns a secret random seed, or 0 if the system provides no random bytes. No answer depends on the seed.
 fn name_seed(rt: &impl RandomSource) -> u64 {
     let mut bytes = [0; 8];
     match rt.fill_bytes(&mut bytes) {
@@ -81,7 +81,7 @@ fn name_seed(rt: &impl RandomSource) -> u64 {
     }
 }
 
-// Whether the user wants colours: a variable NO_COLOR that isn't empty asks for none.
+// Whether colours are allowed: a nonempty variable NO_COLOR forbids them.
 fn wants_color(rt: &impl Env) -> bool {
     let mut first = [0];
     match rt.var("NO_COLOR", &mut first) {
@@ -91,7 +91,7 @@ fn wants_color(rt: &impl Env) -> bool {
     }
 }
 
-// Returns the arguments after the program's name.
+// Returns the arguments, without the program's name.
 fn arguments(rt: &(impl Env + AllocGlobal)) -> io::Result<Vec<String>> {
     let arguments = env::args(rt)?.skip(1).collect(rt.alloc())?;
     Ok(arguments)

@@ -1,4 +1,4 @@
--- The commands as they are built, and what is found of their arguments (chosen by this project).
+-- The commands that the program builds, and the values that are found for their arguments (chosen by this project).
 use Rattle.std.specs.Prelude.{◌≡◌, ◌⊎◌, ℕ, List, [], ◌∷◌, codes, false, true}
 use Rattle.std.specs.List.{Contains}
 use Rattle.clap.specs.Words.{App, Row, Rule, app_of, fault_of, found_of, is_simple_and_free, new_app, rows_of, subcommand_of, with_rule}
@@ -17,16 +17,16 @@ command_names =
     ∷ codes "trace" ∷ codes "picture" ∷ codes "check" ∷ codes "test" ∷ codes "explore"
     ∷ codes "prove" ∷ codes "explain" ∷ codes "licences" ∷ []
 
--- the values that `clap` found of the arguments of a command
+-- the values that `clap` found for the arguments of a command
 abbrev pub rows_in : ArgMatches → List Row
 rows_in found = rows_of (found_of found)
 
--- whether a name is one of these
+-- whether a name is one of the known names
 abbrev pub IsOneOf : List ℕ → List (List ℕ) → Type 0
 IsOneOf name [] = ⊥
 IsOneOf name (known ∷ others) = (name ≡ known) ⊎ IsOneOf name others
 
--- a command that is `app` to `clap`, without an argument that its own commands have too
+-- a command that `clap` sees as `app`, without global arguments, which its subcommands would have too
 pub record Makes (app : App) (command : Command) : Type 0 where
   pub shape : app_of command ≡ app
   pub local : (fields_of command).has_globals ≡ false
@@ -96,7 +96,7 @@ pub record IsRowOf (rows : List CommandRow) (name : List ℕ) (row : CommandRow)
   pub place : Contains rows row
   pub named : row.name.now ≡ name
 
--- a program that judges these arguments as the one with all its commands does
+-- a program that parses these arguments in the same way as the program with all commands
 pub record JudgesAsAll (arguments : List (List ℕ)) (app : App) : Type 0 where
   pub exact : is_simple_and_free app ≡ true
   pub fault : fault_of app arguments ≡ fault_of line.chipbench arguments

@@ -1,6 +1,6 @@
 -- The facts about each line, found line by line (chosen by this project). The lines before a line
--- are listed from the nearest one back. Laws say that these facts are the ones that Places states,
--- and that no other facts are.
+-- are listed from the nearest one back. Laws state that these facts satisfy the relation in Places,
+-- and that no other facts do.
 use Rattle.std.specs.Prelude.{ℕ, ◌+◌, ℤ, unsigned_abs, Bool, true, false, not, ◌&&◌, List, [], ◌∷◌, reverse, map, length, Option, Some, None, is_none, Result, Ok, Err, if◌then◌else◌, nat_le, fold, sum_by, count_by, filter, find, take_while, filter_map, option_map}
 use Rattle.std.specs.List.{list_all}
 use Rattle.std.specs.Option.{option_map_or}
@@ -12,7 +12,7 @@ use Rattle.chip_asm.specs.Layout.{Placed, body_of, is_if, is_endif, first_of, ha
 use Rattle.chip_symbols.specs.declared.table.Symbol.{Symbol}
 use Rattle.chip_symbols.specs.Names.{Name, is_redefinition}
 
--- the names given by the lines so far, in line order
+-- the names that the lines so far define, in line order
 unfoldable pub symbols : List Placed → List (Name × Symbol)
 symbols before = filter_map symbol_of (reverse before)
 

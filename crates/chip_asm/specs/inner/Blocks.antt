@@ -12,26 +12,26 @@ use Rattle.chip_lang.specs.Line.{Body, ifdef, ifund, else_line, endif}
 abbrev pub is_among : ℕ → Block → Bool
 is_among count b = nat_lt 0 b.number && nat_le b.number count
 
--- true if the line at a place opened the block, and is active
+-- true if the line at a place opened the block and is active
 abbrev pub is_opened_at : ℕ → Block → Bool
 is_opened_at place b = b.active && nat_eq b.number (place + 1)
 
--- an active IF line, with the fault that its block is open at the end
+-- an active IF line, with the fault of a block that is open at the end
 abbrev pub unclosed : Placement → Placement
 unclosed q = record q { status = Refused UnclosedIf }
 
--- the line at a place, with the fault of an IF if its block is open at the end
+-- the line at a place, with the fault of an IF if the line's block is open at the end
 abbrev pub marked : Bool → List Block → ℕ → Placement → Placement
 marked ended blocks place q =
     if not ended && list_any (is_opened_at place) blocks then unclosed q else q
 
--- the new list has the lines of the old one, each of them marked
+-- the new list contains the lines of the old one, each of them marked
 abbrev pub AreMarked : Bool → List Block → (old new : List Placement) → Type 0
 AreMarked ended blocks old new =
     (place : ℕ) (other : Placement) → place < length old
     → slice_index_or new place other ≡ marked ended blocks place (slice_index_or old place other)
 
--- the other side of a block; a block that already had an ELSE stays as it is
+-- the other side of a block; a block that already had an ELSE stays the same
 abbrev pub turned : Block → Block
 turned b =
     if b.has_else then b
@@ -45,7 +45,7 @@ abbrev pub close_first : List Block → List Block
 close_first [] = []
 close_first (b ∷ bs) = bs
 
--- each open block, the last one first, was opened active if and only if the blocks around it held
+-- in the open blocks, listed from the last one, each block was opened active if and only if the blocks around it held
 abbrev pub AreNested : List Block → Type 0
 AreNested [] = Unit
 AreNested (b ∷ outer) = (b.active ≡ list_all (λ o. o.holds) outer) × AreNested outer

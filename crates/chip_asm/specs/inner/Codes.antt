@@ -13,11 +13,11 @@ use Rattle.chip_asm.specs.inner.Records.{reading_in}
 use Rattle.chip_asm.specs.computed.Walk.{placed}
 use Rattle.chip_asm.specs.Program.{byte_at, bytes_in_code, code_with, fault_in_code}
 
--- the code of a kept line under a table of names
+-- the code of a stored line under a table of names
 abbrev pub code_kept : Table → KeptLine → Result (List ℕ) Fault
 code_kept names kept = code_with names.symbols (reading_in kept)
 
--- the bytes of a kept line with a placement, the fault of its code, and whether it is encoded
+-- the bytes of a stored line with a placement, the fault of its code, and whether it is encoded
 abbrev pub kept_bytes : Table → KeptLine → Placement → List ℕ
 kept_bytes names kept q = if is_accepted q.status then bytes_in_code (code_kept names kept) else []
 
@@ -31,7 +31,7 @@ is_coded kept q = is_accepted q.status && has_code (body_of (reading_in kept))
 abbrev pub right_byte : List Reading → ℕ → ℕ
 right_byte lines k = byte_at (placed lines) (IMAGE_START + k)
 
--- each byte of the image is the byte at its address, even if a line has a fault; past the kept
+-- each byte of the image is the byte at its address, even if a line has a fault; past the stored
 -- bytes there are zeros
 pub record IsImageOf (image : List ℕ) (lines : List Reading) : Type 0 where
   pub imaged : (k : ℕ) → k < IMAGE_BYTES → slice_index image k ≡ right_byte lines k
@@ -50,8 +50,8 @@ IsWritten q bytes old new =
     ≡ (if covers_byte q k then slice_index bytes (IMAGE_START + k - q.here)
     else slice_index old k)
 
--- the bytes of a line, copied from its place before to its place now, as far as both places have
--- room for them
+-- the bytes of a line, copied from its old place to its new place, up to the smaller of its two
+-- sizes
 abbrev pub copied_bytes : (was now : Placement) → (from : List ℕ) → List ℕ
 copied_bytes was now from = take (min was.size now.size) (drop (was.here - IMAGE_START) from)
 

@@ -1,4 +1,4 @@
--- The facts that are reported about a line, given what is kept of it (chosen by this project).
+-- The facts that are reported about a line, given the stored parts (chosen by this project).
 use Rattle.std.specs.Prelude.{◌≡◌, ℕ, ◌<◌, ◌≤◌, List}
 use Rattle.chip_lang.specs.declared.limits.TheConstants.{MEMORY_BYTES}
 use Rattle.chip_lang.specs.declared.line.Line.{Line}
@@ -21,7 +21,7 @@ facts_in number text q bytes =
     }
 
 -- the number has at most four digits, the reading is the reading of the text, and the address is in
--- the memory or is the one after its end
+-- the memory or directly after it
 pub record IsView (number : ℕ) (text : List ℕ) (line : Line) (q : Placement) : Type 0 where
   pub few : number < 10000
   pub is_read : seen_line line ≡ reading_of text

@@ -1,5 +1,5 @@
--- The text of a line as it is stored: bytes of its own, or a part of the bytes that were read
--- together (chosen by this project).
+-- The text of a line as it is stored: its own bytes, or a part of the bytes of a shared source
+-- (chosen by this project).
 use Rattle.std.specs.Prelude.{◌≡◌, ℕ, ◌+◌, ◌-◌, ◌≤◌, List, None, drop, length, slice_range}
 use Rattle.chip_lang.specs.Line.{empty, read}
 use Rattle.chip_lang.specs.SeenLine.{seen_line}
@@ -23,7 +23,7 @@ abbrev pub IsTextHeld : HeldText → Type 0
 IsTextHeld (Own bytes) = 0 ≤ 0
 IsTextHeld (Part source start count) = start + count ≤ length source.value.bytes
 
--- the first list is the end of the second one
+-- the first list is a suffix of the second one
 pub record IsBack (back bytes : List ℕ) : Type 0 where
   pub within : length back ≤ length bytes
   pub is : back ≡ drop (length bytes - length back) bytes

@@ -1,5 +1,5 @@
--- Facts that are kept of a line beside its reading, so that steps over all lines needn't look into
--- most of them (chosen by this project).
+-- Facts stored about a line in addition to its reading, so that steps over all lines needn't look
+-- into most readings (chosen by this project).
 use Rattle.std.specs.Prelude.{◌≡◌, ℕ, pos, length, slice_get, Bool, true, false, not, if◌then◌else◌, ◌&&◌, List, [], ◌∷◌, All, Option, Some, None, ◌<◌, slice_index_or, ⊤}
 use Rattle.chip_lang.specs.Line.{Body, empty, code, options, used, xref, Reading, bad, read, db, dw, da}
 use Rattle.chip_lang.specs.Uses.{names_used, name_defined}
@@ -16,7 +16,7 @@ use Rattle.chip_asm.specs.inner.Records.{reading_in}
 use Rattle.chip_symbols.specs.Tables.{AreNumbers, IsNumber}
 use Rattle.chip_asm.specs.Layout.{body_of, full_size, is_padded, own_size, is_if_body, is_end_body, is_align_body}
 
--- true for a statement of which the first pass has to know only the size
+-- true for a statement about which the first pass needs only the size
 abbrev pub is_plain : Body → Bool
 is_plain empty = true
 is_plain options = true
@@ -32,7 +32,7 @@ abbrev pub is_plain_line : Reading → Bool
 is_plain_line (bad fault) = false
 is_plain_line (read label body) = is_plain body
 
--- true for a statement with bytes of its own
+-- true for a statement that has its own bytes
 abbrev pub has_code : Body → Bool
 has_code (db es) = true
 has_code (dw es) = true
@@ -40,7 +40,7 @@ has_code (da bytes) = true
 has_code (code form operands) = true
 has_code _ = false
 
--- the line is plain, and takes `size` bytes, padded or not
+-- the line is plain, and takes `size` bytes; `padded` states whether it can be padded
 abbrev pub Takes : ℕ → Bool → Reading → Type 0
 Takes size padded line =
     (is_plain_line line ≡ true) × (size ≡ own_size (body_of line) (pos 0)) × (padded ≡ is_padded (body_of line))
@@ -51,7 +51,7 @@ IsSpaceOf Short line = Takes (if has_code (body_of line) then 2 else 0) false li
 IsSpaceOf (Data size padded) line = Takes size padded line
 IsSpaceOf Asked line = ⊤
 
--- two plain lines give the same name and take the same space; replacing one by the other changes
+-- two plain lines define the same name and take the same space; replacing one by the other changes
 -- nothing else
 pub record AreAlike (old new : Reading) : Type 0 where
   pub was_plain : is_plain_line old ≡ true
@@ -64,13 +64,13 @@ pub record AreAlike (old new : Reading) : Type 0 where
 abbrev pub is_steady : Body → Bool
 is_steady body = not (is_if_body body) && not (is_end_body body) && not (is_align_body body)
 
--- the number, if there is one, stands for the name, if there is one
+-- the number, if there is one, belongs to the name, if there is one
 abbrev pub IsNumberOf : List Name → Option NameId → Option Name → Type 0
 IsNumberOf keys None name = name ≡ None
 IsNumberOf keys (Some id) None = ⊥
 IsNumberOf keys (Some id) (Some name) = IsNumber keys id name
 
--- the numbers of the names that a line uses; those of several names are kept apart
+-- the numbers of the names that a line uses; the numbers of several names are stored in a separate list
 abbrev pub numbers_of : Uses → (several : List NameId) → List NameId
 numbers_of Nothing several = []
 numbers_of (One id) several = id ∷ []
@@ -79,7 +79,7 @@ numbers_of Several several = several
 abbrev pub numbers_in : KeptLine → List NameId
 numbers_in kept = numbers_of kept.info.uses kept.several
 
--- the facts that are kept beside a line are right
+-- the facts stored about a line are right
 pub record IsInfo (keys : List Name) (info : LineInfo) (several : List NameId)
     (line : Reading) : Type 0 where
   pub space : IsSpaceOf info.space line
@@ -88,7 +88,7 @@ pub record IsInfo (keys : List Name) (info : LineInfo) (several : List NameId)
   pub defines : IsNumberOf keys info.defines (name_defined line)
   pub uses : AreNumbers keys (numbers_of info.uses several) (names_used line)
 
--- a plain line takes this size at an address, active or not, and then gives this name
+-- a plain line takes this size at an address, active or not, and then defines this name
 pub record IsPlain (keys : List Name) (active aligning : Bool) (here : ℕ) (line : Reading) (size : ℕ)
     (defines : Option NameId) : Type 0 where
   pub plain : is_plain_line line ≡ true
@@ -102,7 +102,7 @@ AreInfosOf keys infos lines =
     → slice_get infos place ≡ Some made → slice_get lines place ≡ Some line
     → IsInfo keys made.info made.several.items line)
 
--- the facts that are kept beside each line are right
+-- the facts stored about each line are right
 abbrev pub AreInfos : List Name → List KeptLine → Type 0
 AreInfos keys lines = All (λ kept. IsInfo keys kept.info kept.several (reading_in kept)) lines
 

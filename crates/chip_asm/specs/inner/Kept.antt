@@ -1,5 +1,5 @@
--- All that a source keeps beside the texts of its lines, and all that an edit of it requires
--- (chosen by this project).
+-- Everything that a source stores in addition to the texts of its lines, and the requirements of an
+-- edit (chosen by this project).
 use Rattle.std.specs.Prelude.{◌≡◌, ℕ, ◌+◌, ◌<◌, ◌≤◌, false, List, length, map, Some, slice_get, slice_index, take, vec_len, vec_capacity}
 use Rattle.chip_asm.specs.declared.limits.TheConstants.{MOST_LINES}
 use Rattle.chip_lang.specs.Line.{Reading, reading_of}
@@ -19,7 +19,7 @@ use Rattle.chip_asm.specs.inner.Placements.{IsCounted, IsLayoutOf, first_placeme
 use Rattle.chip_asm.specs.inner.Passes.{Change, IsChange, IsHeld, IsSlot, is_byte_of, placed_at}
 use Rattle.chip_asm.specs.inner.Records.{AllAdded, IsPlaceWithin, IsRead, count_after, lines_after, place_before, reading_in, readings_in, texts_after, texts_in}
 
--- all that is kept is right for the texts
+-- everything that is stored is right for the texts
 pub record IsKept (kept : Kept) : Type 0 where
   pub few : length kept.lines.items ≤ MOST_LINES
   pub are_read : readings_in kept.lines.items ≡ map reading_of (texts_in kept.lines.items)
@@ -53,7 +53,7 @@ abbrev pub needed_by : Kept → LineEdit → ℕ
 needed_by kept edit =
     lines_to_encode (texts_kept kept) (texts_after (texts_kept kept) edit) (place_before edit)
 
--- an edit, as the two passes see it
+-- an edit in the form that the two passes take
 abbrev pub change_of : Kept → LineEdit → Change
 change_of kept edit =
     record {
@@ -63,8 +63,7 @@ change_of kept edit =
       keys = kept.names.keys;
     }
 
--- nothing that is kept has changed, and there is room for an edit after which there are `count`
--- lines
+-- nothing that is stored has changed, and there is room for an edit that leaves `count` lines
 pub record HasRoomFor (old new : Kept) (count : ℕ) : Type 0 where
   pub lines : new.lines.items ≡ old.lines.items
   pub names : new.names ≡ old.names
@@ -77,8 +76,8 @@ pub record HasRoomFor (old new : Kept) (count : ℕ) : Type 0 where
   pub placements_room : vec_len new.layout.placements + count ≤ vec_capacity new.layout.placements
   pub blocks_room : count ≤ vec_capacity new.blocks
 
--- all is ready for the two passes: the edit is made in the lines and in what is kept of each, and
--- the first lines, which end at the address `start`, stay
+-- everything is ready for the two passes: the edit is made in the lines and in their placements,
+-- and the first lines, which end at the address `start`, stay the same
 pub record IsExchanged (e : Change) (kept : Kept) (first start : ℕ) : Type 0 where
   pub now : e.now ≡ readings_in kept.lines.items
   pub change : IsChange e
@@ -110,7 +109,7 @@ pub record IsExchanged (e : Change) (kept : Kept) (first start : ℕ) : Type 0 w
       → is_byte_of x.here x.size k ≡ false)
       → slice_index kept.image.items k ≡ 0
 
--- the passes have made the layout and the codes of the lines after an edit
+-- the passes have computed the layout and the codes of the lines after an edit
 pub record IsAssembled (e : Change) (kept : Kept) : Type 0 where
   pub infos : AreInfos kept.names.keys kept.lines.items
   pub symbols : kept.names.symbols ≡ names_of_lines e.now

@@ -1,4 +1,4 @@
--- A kept line as contracts see it, and the way in which it is stored (chosen by this project).
+-- A stored line as contracts see it, and the way in which it is stored (chosen by this project).
 use Rattle.std.specs.Prelude.{ℕ, List, ◌≡◌, ◌+◌, ◌≤◌, [], ℤ, IfSome, Ok, Option, length}
 use Rattle.chip_lang.specs.declared.line.Line.{Line}
 use Rattle.chip_asm.specs.declared.line_info.LineInfo.{LineInfo}

@@ -37,11 +37,11 @@ abbrev pub IsChange : Change → Type 0
 IsChange e =
     (j b : ℕ) → e.origin j ≡ Some b → j < length e.now → slice_get e.was b ≡ slice_get e.now j
 
--- true if the line at a place was there before the edit, and was accepted then
+-- true if the line at a place existed before the edit and was accepted then
 abbrev pub stood : Change → ℕ → Bool
 stood e j = option_map_or (is_accepted_at e.was) (e.origin j) false
 
--- the line at a place, as it is placed after the edit
+-- the line at a place, with its facts after the edit
 abbrev pub placed_at : Change → ℕ → Option Placed
 placed_at e j = slice_get (reverse (placed e.now)) j
 
@@ -53,15 +53,15 @@ code_before e line = code_with (names_of_lines e.was) line
 abbrev pub is_byte_of : (here size k : ℕ) → Bool
 is_byte_of here size k = nat_le here (IMAGE_START + k) && nat_lt (IMAGE_START + k) (here + size)
 
--- the code of a line is at an address of an image, with zeros after it, and the line's status has
--- the fault of the code, if any
+-- an image contains the code of a line at an address, with zeros after it, and the line's status
+-- contains the fault of the code, if any
 pub record HasCode (code : Result (List ℕ) Fault) (here size : ℕ) (status : Status) (image : List ℕ) : Type 0 where
   pub bytes : (k : ℕ) → is_byte_of here size k ≡ true
       → slice_index image k ≡ slice_index (bytes_in_code code) (IMAGE_START + k - here)
   pub noted : status ≡ status_coded (fault_in_code code)
 
--- the facts about the line at a place that the first pass has yet to pass: `q` is its placement
--- before the edit, if it was accepted then
+-- the facts about a line that the first pass hasn't reached yet: `q` is its placement before the
+-- edit, if it was accepted then
 pub record IsSlot (e : Change) (from : List ℕ) (j : ℕ) (line : Reading) (q : Placement) : Type 0 where
   pub accepted : is_accepted q.status ≡ stood e j
   pub was : is_accepted q.status ≡ true
@@ -75,7 +75,7 @@ pub record Waits (e : Change) (j : ℕ) (x : Placed) (status : Status) (image : 
   pub new : stood e j ≡ false
   pub zeros : (k : ℕ) → is_byte_of x.here x.size k ≡ true → slice_index image k ≡ 0
 
--- an accepted line waits for its code, or has the code that it had before the edit
+-- an accepted line waits for its code or has the code that it had before the edit
 abbrev pub IsCarried : Change → (j : ℕ) (x : Placed) (status : Status) (image : List ℕ) → Type 0
 IsCarried e j x status image =
     Waits e j x status image ⊎ HasCode (code_before e x.line) x.here x.size status image
@@ -84,7 +84,7 @@ IsCarried e j x status image =
 abbrev pub IsHeld : Change → (j : ℕ) (x : Placed) (q : Placement) (image : List ℕ) → Type 0
 IsHeld e j x q image = takes_effect x ≡ true → IsCarried e j x q.status image
 
--- each byte of an image that none of the lines before a place covers is zero
+-- in an image, each byte that no line before a place covers is zero
 abbrev pub AreGapsZero : Change → (place : ℕ) (image : List ℕ) → Type 0
 AreGapsZero e place image =
     (k : ℕ) → k < IMAGE_BYTES
@@ -105,7 +105,7 @@ pub record HasRoom (pass : Pass) (left : ℕ) : Type 0 where
   pub blocks : vec_len pass.blocks + left ≤ vec_capacity pass.blocks
   pub names : length pass.names.symbols + left ≤ pass.names.room
 
--- the first pass has come to a place
+-- the first pass has reached a place
 pub record IsUnderWay (e : Change) (lines : List KeptLine) (pass : Pass) (placements : List Placement)
     (tally : Tally) (from image : List ℕ) (place : ℕ) : Type 0 where
   pub now : e.now ≡ readings_in lines
@@ -127,7 +127,7 @@ pub record IsUnderWay (e : Change) (lines : List KeptLine) (pass : Pass) (placem
       → placed_at e j ≡ Some x → slice_get placements j ≡ Some q → IsHeld e j x q image
   pub gaps : AreGapsZero e place image
 
--- the facts about a line that has its code, and about one that the second pass has yet to look at
+-- the facts about a line that has its code, and about a line that the second pass hasn't reached yet
 abbrev pub IsDone : Change → (x : Placed) (q : Placement) (image : List ℕ) → Type 0
 IsDone e x q image =
     is_accepted_in (placed e.now) x ≡ true
@@ -137,7 +137,7 @@ abbrev pub IsHalfDone : Change → (j : ℕ) (x : Placed) (q : Placement) (image
 IsHalfDone e j x q image =
     is_accepted_in (placed e.now) x ≡ true → IsCarried e j x q.status image
 
--- the second pass has come to a place
+-- the second pass has reached a place
 pub record AreCoded (e : Change) (placements : List Placement) (image : List ℕ) (place : ℕ) : Type 0 where
   pub placed_many : length placements ≡ length e.now
   pub image_long : length image ≡ IMAGE_BYTES

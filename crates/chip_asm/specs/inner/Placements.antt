@@ -46,18 +46,18 @@ fault_noted (Refused fault) = Some fault
 fault_noted (Uncoded fault) = Some fault
 fault_noted _ = None
 
--- the status of a line that is active or not, and has this fault or none in the first pass
+-- the status after the first pass, given whether the line is active and which fault it has, if any
 abbrev pub first_status : Bool → Option Fault → Status
 first_status false fault = Skipped
 first_status true (Some fault) = Refused fault
 first_status true None = Pending
 
--- the status of a line that wasn't accepted before, has code or not, and has no fault in the first
--- pass
+-- the status of a line that wasn't accepted before and has no fault in the first pass, given
+-- whether it is active and has code
 abbrev pub bare_status : (active coded : Bool) → Status
 bare_status active coded = if active then (if coded then Pending else Done) else Skipped
 
--- the status of an accepted line whose code has this fault, or none
+-- the status of an accepted line, given the fault of its code, if any
 abbrev pub status_coded : Option Fault → Status
 status_coded (Some fault) = Uncoded fault
 status_coded None = Done
@@ -80,7 +80,7 @@ is_accepted_found f = f.active && is_none f.fault
 abbrev pub count_of : Placement → ℕ
 count_of q = if is_none (fault_noted q.status) then 0 else 1
 
--- the placement of a line of which nothing is known yet
+-- the placement of a line about which nothing is known yet
 abbrev pub nothing : Placement
 nothing = record { value = pos 0; here = 0; size = 0; status = Skipped }
 
@@ -111,7 +111,7 @@ pub record Follows (pass : Pass) (before : List Placed) : Type 0 where
   pub ended : pass.ended ≡ has_ended before
   pub open_blocks : pass.blocks.items ≡ reverse (map (block_of before) (enclosing before))
   pub names : pass.names.symbols ≡ symbols before
-  -- whether a line that turns or closes no block is active
+  -- whether the next line is active, if it is neither ELSE nor ENDIF
   pub active : pass.active ≡ (not pass.ended && list_all (λ b. b.holds) pass.blocks.items)
 
 abbrev pub next_address : Bool → ℕ → Body → ℤ → ℕ → ℕ
@@ -126,12 +126,12 @@ next_aligning accepted aligning _ = aligning
 unfoldable pub first_placements : List Reading → List Found
 first_placements lines = map placement_of (reverse (placed lines))
 
--- the pass stands after these lines, and the placements at the front are its results for them
+-- the pass has passed these lines, and the placements at the front are its results for them
 pub record HasPassed (all : List Placement) (pass : Pass) (lines : List Reading) : Type 0 where
   pub placements : take (length lines) (map found all) ≡ first_placements lines
   pub follows : Follows pass (placed lines)
 
--- the result of both passes for a line before its code is made, including the fault of an IF
+-- the result of both passes for a line before the line is encoded, including the fault of an IF
 -- without ENDIF
 abbrev pub final_placement : List Placed → Placed → Found
 final_placement all p = record (placement_of p) { fault = first_pass_fault all p }
@@ -139,7 +139,7 @@ final_placement all p = record (placement_of p) { fault = first_pass_fault all p
 unfoldable pub placements_of : List Reading → List Found
 placements_of lines = map (final_placement (placed lines)) (reverse (placed lines))
 
--- the status of each accepted line has the fault of its code, if any
+-- the status of each accepted line contains the fault of its code, if any
 abbrev pub AreCodesNoted : List Placement → List Reading → Type 0
 AreCodesNoted placements lines =
     (j : ℕ) (x : Placed) (q : Placement) → slice_get (reverse (placed lines)) j ≡ Some x
@@ -156,7 +156,7 @@ pub record IsLayoutOf (layout : Layout) (lines : List Reading) : Type 0 where
   pub end_address : layout.end ≡ address (placed lines)
   pub counted : IsCounted layout
 
--- the pass stands after the first `place` lines, and the placements at the front are its results
--- for them
+-- the pass has passed the first `place` lines, and the placements at the front are its results for
+-- them
 abbrev pub IsWalked : List Placement → Pass → List Reading → (place : ℕ) → Type 0
 IsWalked placements pass lines place = HasPassed placements pass (take place lines)

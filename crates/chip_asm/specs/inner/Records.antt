@@ -1,4 +1,4 @@
--- All that is kept of each line, before and after a change of one line (chosen by this project).
+-- Everything that is stored about each line, before and after an edit (chosen by this project).
 use Rattle.std.specs.Prelude.{◌≡◌, ℕ, ◌+◌, ◌-◌, ◌<◌, ◌≤◌, All, List, length, map, insert, remove, replicate, slice_set, Option, None}
 use Rattle.chip_lang.specs.Line.{Reading, reading_of}
 use Rattle.chip_lang.specs.SeenLine.{seen_line}
@@ -16,7 +16,7 @@ readings_in lines = map reading_in lines
 abbrev pub texts_in : List KeptLine → List (List ℕ)
 texts_in lines = map (λ kept. kept.text) lines
 
--- the reading that is kept of a line is the reading of its text
+-- the stored reading of a line is the reading of its text
 abbrev pub IsRead : KeptLine → Type 0
 IsRead kept = reading_in kept ≡ reading_of kept.text
 
@@ -27,7 +27,7 @@ IsPlaceWithin count (Replace at line) = at < count
 IsPlaceWithin count (Delete at) = at < count
 IsPlaceWithin count (Open all) = count ≡ 0
 
--- the kept lines after the edit
+-- the stored lines after the edit
 abbrev pub lines_after : List KeptLine → LineEdit → List KeptLine
 lines_after lines (Insert at line) = insert lines at line
 lines_after lines (Replace at line) = slice_set lines at line
@@ -41,14 +41,14 @@ texts_after texts (Replace at line) = slice_set texts at line.text
 texts_after texts (Delete at) = remove texts at
 texts_after texts (Open all) = texts_in all.items
 
--- a property holds of each line that comes with the edit
+-- a property holds for each line that the edit adds
 abbrev pub AllAdded : (KeptLine → Type 0) → LineEdit → Type 0
 AllAdded P (Insert at line) = P line
 AllAdded P (Replace at line) = P line
 AllAdded P (Delete at) = Unit
 AllAdded P (Open all) = All P all.items
 
--- the item for each line after the edit, where `new` is the item for each new line
+-- the item for each line after the edit; `new` is the item for each new line
 abbrev pub items_after : {X : Type 0} → List X → LineEdit → (new : X) → List X
 items_after items (Insert at line) new = insert items at new
 items_after items (Replace at line) new = slice_set items at new
@@ -68,7 +68,7 @@ place_before (Replace at line) place = before_replace at place
 place_before (Delete at) place = before_delete at place
 place_before (Open all) place = None
 
--- the place where the edit begins; the lines before it stay
+-- the place of the first line that the edit changes; the lines before it stay the same
 abbrev pub first_changed : LineEdit → ℕ
 first_changed (Insert at line) = at
 first_changed (Replace at line) = at

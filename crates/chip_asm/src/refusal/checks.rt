@@ -12,7 +12,7 @@ fn has_line_break(text: &[u8]) -> bool
 }
 
 /// The reason why a text can't be inserted before the line with this number, if there are `count`
-/// lines; none if it can be.
+/// lines; none if the text can be inserted.
 pub(crate) fn insert_refusal(count: usize, number: usize, text: &[u8]) -> Option<Refusal>
     ensures { result ≡ insert_refusal count number text.now }
 {
@@ -32,7 +32,7 @@ pub(crate) fn insert_refusal(count: usize, number: usize, text: &[u8]) -> Option
 }
 
 /// The reason why a text can't replace the line with this number, if there are `count` lines; none
-/// if it can.
+/// if the text can replace it.
 pub(crate) fn replace_refusal(count: usize, number: usize, text: &[u8]) -> Option<Refusal>
     ensures { result ≡ replace_refusal count number text.now }
 {
@@ -49,7 +49,7 @@ pub(crate) fn replace_refusal(count: usize, number: usize, text: &[u8]) -> Optio
 }
 
 /// The reason why the line with this number can't be removed, if there are `count` lines; none if
-/// it can be.
+/// the line can be removed.
 pub(crate) fn delete_refusal(count: usize, number: usize) -> Option<Refusal>
     ensures { result ≡ delete_refusal count number }
 {

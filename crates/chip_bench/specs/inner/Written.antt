@@ -1,5 +1,5 @@
--- The files that the commands wrote (chosen by this project). `wrote` says that a file took these bytes, and
--- only a write that succeeded establishes it.
+-- The files that the commands wrote (chosen by this project). `wrote` states that a file received
+-- these bytes, and only a successful write establishes it.
 --     IsFoundWritten    an image, if there is one
 --     IsImageWritten    the image of a source
 use Rattle.std.specs.Prelude.{◌≡◌, List, ℕ, Option, Some, None}

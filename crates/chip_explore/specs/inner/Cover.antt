@@ -1,11 +1,11 @@
--- The states that a search keeps, and what is known about them.
+-- The states that a search keeps, and the facts about them.
 -- Source: chosen by this project.
 --     phase           the part of a step's number that decides when the timers tick
 --     tick_at         whether the timers tick in a step of the search: if the ticks are free, they
 --                     never do, and the delay timer of a state is a bound
 --     View            the kept states, each with its forgotten parts and the least step at which it was
 --                     reached; the limit, below which the search is about steps; and the addresses at
---                     which the search saw steps made
+--                     which the search saw steps executed
 --     Grows           noted addresses stay noted
 --     meets_goals     whether a state meets each goal
 --     IsFine          a state that doesn't meet the target; if it has stopped, it meets the goals; if
@@ -15,8 +15,8 @@
 --                     to a stop, or to a kept state; they tell neither keys nor values of the delay
 --                     timer apart, need nothing that is forgotten, pass no state that meets the target,
 --                     and are made only at noted addresses
---     IsTaken         each step from a kept state leads to a state that is safe in this way
---     Extends         a view knows more than another
+--     IsTaken         each step from a kept state leads to a `Safe` state
+--     Extends         a view contains at least the facts of another view
 --     Holds           each step from each closed state leads to a safe state, and the rate is at least 1
 --     Goes            a call preserves `Holds`, and its view extends the one before
 use Rattle.std.specs.Prelude.{◌≡◌, ℕ, zero, suc, ◌+◌, ◌-◌, ◌%◌, ◌^◌, ◌<◌, ◌≤◌, ◌⊎◌, Bool, true, false, Option, Some, None, List, length, is_some, slice_index, slice_index_or, if◌then◌else◌}
@@ -78,7 +78,7 @@ pub record Moves (p : Setting) (executed : List Bool) (forgotten : ℕ) (s : Sta
 abbrev pub forgotten_at : View → ℕ → ℕ
 forgotten_at v place = slice_index v.forgotten place
 
--- the place holds a state like this one, with the ticks as at this step
+-- the place contains a state like this one, with the ticks as at this step
 pub record IsAt (p : Setting) (v : View) (place forgotten : ℕ) (s : State) (t : ℕ) : Type 0 where
   pub kept : place < length v.steps
   pub phased : phase p (slice_index v.steps place) ≡ phase p t
@@ -107,7 +107,7 @@ pub record Safe (p : Setting) (v : View) (forgotten : ℕ) (s : State) (t : ℕ)
   pub few : moves ≤ MOST_QUIET_STEPS
   pub path : SafeFor p v moves forgotten s t
 
--- the state to which a step of another leads is safe, with what is forgotten after that step
+-- the state to which a step of another state leads is safe, with the parts that are forgotten after that step
 pub record GoesTo (p : Setting) (v : View) (forgotten : ℕ) (s : State) (next : State) (t : ℕ) : Type 0 where
   pub after : ℕ
   pub is_after : IsForgottenAfter forgotten s next.core.pc after
@@ -172,7 +172,7 @@ pub record GoesUpTo (p : Setting) (m n : Members) (most : ℕ) : Type 0 where
 abbrev pub Adds : Setting → (m n : Members) → ℕ → Type 0
 Adds p m n count = GoesUpTo p m n (length m.steps.items + count)
 
--- a place that holds a kept state
+-- a place that contains a kept state
 pub record HasPlace (p : Setting) (m : Members) (place : ℕ) : Type 0 where
   pub holds : Holds p m
   pub kept : place < length m.steps.items
@@ -191,7 +191,7 @@ pub record IsSearched (p : Setting) (m : Members) (start : State) (from : ℕ) :
   pub noted : is_at_one m.executed m.start ≡ true
   pub begun : Safe p (view_of m) 0 m.start from
 
--- two settings ask the same question, maybe with other ticks
+-- two settings ask the same question, perhaps with different ticks
 pub record AsksSame (p other : Setting) : Type 0 where
   pub rate : other.rate ≡ p.rate
   pub allowed : other.allowed ≡ p.allowed
@@ -209,7 +209,7 @@ pub record IsWhole (p : Setting) (m : Members) : Type 0 where
   pub taken : (j : ℕ) → j < length m.steps.items → slice_index m.steps.items j < END - 1
       → IsTaken p (view_of m) j
 
--- the next step of a state acts, with any allowed keys down, as with one of some choices, and needs
+-- the next step of a state, with any allowed keys down, acts as with one of the choices, and needs
 -- nothing that is forgotten
 pub record HasChoices (p : Setting) (forgotten : ℕ) (s : State) (choices : ℕ) : Type 0 where
   pub drawn : s.core.draws < 2 ^ 64 - 1
@@ -248,7 +248,7 @@ Leads p m n place step keys = LeadsBy (λ s. step_of s keys (tick_at p step)) p 
 abbrev pub LeadsAs : Setting → (m n : Members) → (place step value : ℕ) → Type 0
 LeadsAs p m n place step value = LeadsBy (read_as value) p m n place step
 
--- why a sequence of steps ended at a state
+-- the condition under which a sequence of steps ended at a state
 abbrev pub IsEnd : Setting → List Bool → (limit forgotten : ℕ) → State → ℕ → End → Type 0
 IsEnd p executed limit forgotten s t Past = limit ≤ t
 IsEnd p executed limit forgotten s t Wanted = Unit {0}

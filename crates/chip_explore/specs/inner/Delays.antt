@@ -1,12 +1,12 @@
 -- States whose delay timer is a bound, for a search in which the timers may tick after any step.
---     with_delay       a state with another value of the delay timer
+--     with_delay       a state with its delay timer set to a value
 --     delay_register   the register that the next step sets to the delay timer, if any
 --     timed_register   that register, if the ticks are free and the delay timer is above 0, so that
---                      it may get one of several values
---     read_as          the state after that step if the delay timer had a value: the bound stays, except
---                      that a timer that has come to 0 stays at 0
---     AlikeTicks       a state of a search is like one of a run except for the delay timer: if the ticks
---                      are free, it is at least that of the run, otherwise it is equal
+--                      the register may get one of several values
+--     read_as          the state after that step if the delay timer had this value: the bound stays,
+--                      except that a timer that has reached 0 stays at 0
+--     AlikeTicks       a state of a search is like a state of a run except for the delay timer: if the
+--                      ticks are free, it is at least the timer of the run; otherwise the timers are equal
 use Rattle.std.specs.Prelude.{◌≡◌, ◌≤◌, ℕ, ◌==◌, ◌&&◌, not, false, is_some, Option, Some, None, if◌then◌else◌}
 use Rattle.chip_lang.specs.declared.instr.Instr.{Instr}
 use Rattle.chip_lang.specs.declared.instr.Instr.TheVariants as row

@@ -3,11 +3,11 @@
 --     with_byte       a state with one byte of its memory replaced
 --     with_row        rows of pixels with one row replaced
 --     parts_of        the parts of a kept state other than its memory and its screen
---     parts_read      some parts after a step that set a register to a value of the delay timer
+--     parts_read      the parts after a step that set a register to a value of the delay timer
 --     state_with      the state that consists of a base, some parts, and the bytes and rows of a
 --                     backdrop
 --     state_of        `state_with` for the parts, the bytes and the rows of a kept state
---     state_at        the state that is kept at a place, or that of the base if there is none
+--     state_at        the state that is kept at a place, or the state of the base if there is none
 use Rattle.std.specs.Prelude.{ℕ, ◌+◌, ◌*◌, ◌^◌, nat_lt, List, Option, Some, None, fold, length, slice_get, slice_set, if◌then◌else◌}
 use Rattle.chip_machine.specs.Limits.{MEMORY_BYTES}
 use Rattle.chip_machine.specs.Restored.{with_parts, with_screen}

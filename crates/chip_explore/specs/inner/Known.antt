@@ -1,13 +1,13 @@
 -- The states in which a property can be evaluated while some parts are forgotten.
 -- Source: chosen by this project.
---     is_item_known      whether a state has the value of an item: no part of it is forgotten, and the
---                        delay timer is not just a bound
---     is_sum_known       whether it has each value of a sum
---     is_property_known  whether it has each value of a property that is evaluated in it
---     known_of           which values a state of a search has
---     are_goals_known    whether it has each value of the goals
---     are_known          whether it has each value of the properties and the goals that are evaluated in
---                        it
+--     is_item_known      whether the value of an item is known in a state: no part of the item is
+--                        forgotten, and the delay timer isn't only a bound
+--     is_sum_known       whether each value of a sum is known
+--     is_property_known  whether each value of a property that is evaluated in the state is known
+--     known_of           the values of a state of a search that are known
+--     are_goals_known    whether each value of the goals is known
+--     are_known          whether each value of the properties and the goals that are evaluated in the
+--                        state is known
 use Rattle.std.specs.Prelude.{ℕ, ◌+◌, ◌==◌, ◌&&◌, ◌||◌, not, Bool, true}
 use Rattle.std.specs.List.{list_all}
 use Rattle.chip_machine.specs.Forgotten.{has_byte, has_part, index_part, register_part, screen_part}

@@ -1,7 +1,7 @@
--- How far the events of a script were applied.
+-- The events of a script that were applied.
 -- Source: own.
---     IsPlayed        the applied events are of steps below one; the others are in order, of another step
---                     or later ones; and these keys are down after those that were applied
+--     IsPlayed        the applied events are at steps below one step; the others are in order, at another
+--                     step or later; and these keys are down after the applied events
 use Rattle.std.specs.Prelude.{◌≡◌, ℕ, ◌+◌, ◌<◌, ◌≤◌, true, false, List, length, take, drop, slice_index_or, None}
 use Rattle.chip_replay.specs.Keys.{event_at, is_down}
 use Rattle.chip_replay.specs.Mask.{mask}

@@ -1,12 +1,12 @@
 -- Ranks of the kept states. The ranks show that the goals can be reached from each state.
---     IsAtGoals       a state that hasn't stopped, has every value that is used there, and meets the goals
---     Falls           a state is like a kept one of a lesser rank
---     Climbs          from a state at a step, with some parts forgotten, at most so many steps, with some
---                     allowed keys each, lead to the goals or to a kept state of a lesser rank; they need
+--     IsAtGoals       a state that hasn't stopped and meets the goals, and in which all used values are known
+--     Falls           a state is like a kept state of a smaller rank
+--     Climbs          from a state at a step, with some parts forgotten, at most `most` steps, each with
+--                     some allowed keys, lead to the goals or to a kept state of a smaller rank; they need
 --                     nothing that is forgotten, and read no value of a delay timer that is a bound
 --     IsRanked        a kept state climbs in this way, with its own rank
 --     IsOpen          a state whose step tells no values of the delay timer apart
---     IsWay           what is known where a sequence of steps with no keys down ends
+--     IsWay           the facts about the state in which a sequence of steps with no keys down ends
 use Rattle.std.specs.Prelude.{◌≡◌, ℕ, zero, suc, ◌+◌, ◌-◌, ◌^◌, ◌<◌, ◌≤◌, ◌⊎◌, List, None, false, true, is_some, slice_index}
 use Rattle.chip_machine.specs.Choices.{IsWithin}
 use Rattle.chip_machine.specs.Forgotten.{IsUnneeded, IsForgottenAfter}

@@ -1,10 +1,10 @@
 -- The start of a search, and its answers.
 -- Source: chosen by this project.
 --     Begins          a machine that has drawn no random byte yet and doesn't meet the target
---     Covers          no key script makes the machine meet the target at a step up to n, or make a step
---                     at an address other than the given ones
---     Says            what an outcome says, with the addresses at which steps were made
---     Tells           the answer of a single search, without a deep search after another
+--     Covers          no key script makes the machine meet the target at a step up to n, or execute a
+--                     step at an address other than the given ones
+--     Says            the meaning of an outcome and of the addresses at which steps were executed
+--     Tells           the meaning of the answer of a single search, without a deep search after it
 --     later_of        the meaning of an outcome after another search covered the steps up to n
 use Rattle.std.specs.Prelude.{◌≡◌, ℕ, ◌+◌, ◌-◌, ◌<◌, ◌≤◌, Bool, true, false, None, List}
 use Rattle.chip_machine.specs.State.{State}

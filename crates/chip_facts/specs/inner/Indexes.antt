@@ -1,4 +1,4 @@
--- Sets of values of I: address a at number a, and all values past the memory at the last number.
+-- Sets of values of I: address a is number a, and the last number stands for all values past the memory.
 use Rattle.std.specs.Prelude.{ℕ, List, min}
 use Rattle.chip_facts.specs.Sets.{Holds}
 

@@ -1,4 +1,4 @@
--- Knowledge about the registers, I, the delay timer and the size of the screen.
+-- What is known about the registers, I, the delay timer and the size of the screen.
 use Rattle.std.specs.Prelude.{◌≡◌, ℕ, ◌+◌, ◌*◌, ◌<◌, ◌≤◌, Bool, true, List, length, slice_index, if◌then◌else◌}
 use Rattle.chip_machine.specs.State.{Core}
 use Rattle.chip_machine.specs.Step.{reg}

@@ -1,4 +1,4 @@
--- The results of instructions on two bytes, by the table of the instructions.
+-- The results of instructions on two bytes, according to the instruction table.
 use Rattle.std.specs.Prelude.{◌≡◌, ℕ, ◌+◌, ◌-◌, ◌*◌, ◌/◌, ◌%◌, ◌==◌, true, nat_lt, nat_le, bit_and, bit_or, bit_xor}
 use Rattle.chip_machine.specs.Step.{bit_of}
 use Rattle.chip_facts.specs.declared.operation.Operation.{Operation}

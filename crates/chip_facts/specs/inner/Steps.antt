@@ -18,7 +18,7 @@ all_bytes s = s.memory ++ s.core.flags
 abbrev pub byte_at : State → ℕ → ℕ
 byte_at s at = slice_index (all_bytes s) at
 
--- each byte is one of those that the table has for its address, and the machine hasn't stopped
+-- the table allows each byte at its address, and the machine hasn't stopped
 pub record IsAround (memory : List ℕ) (quirks : Quirks) (s : State) : Type 0 where
   pub size : length s.memory ≡ 4096
   pub flags : length s.core.flags ≡ 8
@@ -34,13 +34,13 @@ frames_by way.Same frames = frames
 frames_by (way.Call back) frames = frames ++ back ∷ []
 frames_by way.Return frames = take (length frames - 1) frames
 
--- a core is one of those that a successor describes
+-- a successor describes a core
 pub record IsNext (frames : List ℕ) (c : Core) (n : Successor) : Type 0 where
   pub pc : c.pc ≡ n.pc
   pub frames_are : c.frames ≡ frames_by n.way frames
   pub known : IsKnown n.known c
 
--- the bytes that a step stores, one after another from one of some addresses on, may put this byte at an address
+-- a step that stores bytes consecutively, starting at one of several addresses, may put this byte at an address
 pub record IsStored (stored : Stored) (at byte : ℕ) : Type 0 where
   pub from : ℕ
   pub place : ℕ
@@ -49,13 +49,13 @@ pub record IsStored (stored : Stored) (at byte : ℕ) : Type 0 where
   pub among : Holds stored.at from
   pub value : Holds (slice_index_or stored.values.items place []) byte
 
--- each byte is unchanged, or one that may be stored there
+-- each byte is unchanged, or is a byte that may be stored there
 abbrev pub AreStored : Option Stored → State → State → Type 0
 AreStored None old new = all_bytes new ≡ all_bytes old
 AreStored (Some stored) old new =
     (at : ℕ) → (byte_at new at ≡ byte_at old at) ⊎ IsStored stored at (byte_at new at)
 
--- the parts of a state that a step leaves the same
+-- the parts of a state that a step doesn't change
 pub record IsKept (old new : State) : Type 0 where
   pub size : length new.memory ≡ length old.memory
   pub flags : length new.core.flags ≡ length old.core.flags

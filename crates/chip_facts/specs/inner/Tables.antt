@@ -1,4 +1,4 @@
--- Tables of rows, in which each reached state lies.
+-- Tables of rows. Each reached state lies in a row of such a table.
 use Rattle.std.specs.Prelude.{◌≡◌, ℕ, List, Any, Contains, Some, Result, Ok, Err}
 use Rattle.chip_machine.specs.declared.quirks.Quirks.{Quirks}
 use Rattle.chip_machine.specs.declared.stop.Stop.{Stop}

@@ -17,7 +17,7 @@ pub record IsAt (before : Before) (s : State) : Type 0 where
   pub known : IsKnown before.known s.core
   pub around : IsAround before.memory.now before.quirks s
 
--- an effect does only what an outcome allows
+-- an outcome allows everything that an effect does
 abbrev pub Gives : Before → Outcome → (Core → Effect) → Type 0
 Gives before out effect =
     (s : State) → IsAt before s → (keys : ℕ) → Meets before.frames.now out s (perform keys s (effect s.core))
@@ -27,14 +27,14 @@ abbrev pub Leads : Before → List Successor → (Core → Core) → Type 0
 Leads before next change =
     (s : State) → IsAt before s → Any (IsNext before.frames.now (change s.core)) next
 
--- the parts of a core that a change of the core leaves the same
+-- the parts of a core that a change of the core doesn't affect
 pub record IsCalm (old new : Core) : Type 0 where
   pub same_flags : new.flags ≡ old.flags
   pub tape_is : new.tape ≡ old.tape
   pub quirks_are : new.quirks ≡ old.quirks
   pub stop_is : new.stopped ≡ old.stopped
 
--- a step goes on to the next instruction, where this is known
+-- a step moves pc to the next instruction, and `known` is true of the core after it
 pub record GoesOn (known : Known) (old new : Core) : Type 0 where
   pub pc_is : new.pc ≡ old.pc + 2
   pub frames_stay : new.frames ≡ old.frames

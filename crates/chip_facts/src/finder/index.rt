@@ -2,10 +2,10 @@
 
 use std::alloc::{AllocError, Global};
 
-/// The largest number of rows of a table.
+/// The maximum number of rows of a table.
 pub(crate) const MOST_ROWS: usize = 20_000;
 
-/// The number of slots, somewhat larger than the number of rows.
+/// The number of slots, which is somewhat larger than the maximum number of rows.
 const SLOTS: usize = 32_768;
 
 /// The key of a row: its address, the number of its call stack, and a label that depends on VF and I.
@@ -21,7 +21,7 @@ impl Place {
         self.pc == other.pc && self.stack == other.stack && self.label == other.label
     }
 
-    /// Returns the slot where a search for this place begins.
+    /// Returns the slot at which a look-up of this place starts.
     fn slot(&self) -> usize {
         let mixed = (self.pc as u64)
             .wrapping_mul(0x9e37_79b9_7f4a_7c15)
@@ -31,8 +31,8 @@ impl Place {
     }
 }
 
-/// A hash table for the number of each row. A number is in the first slot that was free, from the slot of
-/// its place on.
+/// A hash table from places to row numbers. Each number is stored in the first slot that was free,
+/// starting at its place's slot.
 #[derive(Drop)]
 pub(crate) struct Index {
     slots: Vec<Option<(Place, u32)>>,
@@ -45,7 +45,7 @@ impl Index {
         })
     }
 
-    /// Returns the number of the row at a place, if there is one.
+    /// Returns the number of the row at a place, or `None` if there is no row.
     pub(crate) fn get(&self, place: &Place) -> Option<u32> {
         let mut slot = place.slot();
         for _ in 0..SLOTS {
@@ -58,7 +58,7 @@ impl Index {
         None
     }
 
-    /// Notes the number of a row at a place that has none.
+    /// Records the number of a row at a place that has no row yet.
     pub(crate) fn insert(&mut self, place: Place, number: u32) {
         let mut slot = place.slot();
         for _ in 0..SLOTS {

@@ -1,4 +1,4 @@
-//! The search for a table. It makes steps from rows, the least address first, until they lead to nothing new.
+//! The search for a table. It executes steps from rows, lowest address first, until they add nothing new.
 
 ghost use Rattle.std.specs.Prelude.{◌≤◌, length};
 ghost use Rattle.chip_lang.specs.declared.limits.TheConstants.{IMAGE_BYTES};
@@ -20,27 +20,27 @@ use chip_machine::limits::LAST_WORD;
 use chip_machine::{Machine, Quirks, Stop};
 use std::alloc::{AllocError, Global};
 
-/// How often a row may be joined before its sets grow to the next constant of the program.
+/// How often a row may grow before its sets are extended to the next constant of the program.
 const PATIENCE: u32 = 8;
 
-/// The largest number of words that an address of the code may have.
+/// The maximum number of possible words at an address of the code.
 const MOST_WORDS: u32 = 256;
 
-/// The largest number of rows at one address that are told apart by I, if loops are unrolled.
+/// The maximum number of rows at one address that are distinguished by I, if loops are unrolled.
 const MOST_TURNS: u16 = 256;
 
-/// The manner of a search.
+/// The options of a search.
 #[derive(Clone, Copy)]
 struct Manner {
-    /// Whether sets grow to the next constant of the program once a row has grown often.
+    /// Whether sets are extended to the next constant of the program once a row has grown often.
     hurries: bool,
-    /// Whether rows are told apart by I if it has only one value, so that each turn of a loop that moves
-    /// I has its own row.
+    /// Whether rows are distinguished by I if it has only one possible value, so that each iteration of a
+    /// loop that changes I has its own row.
     unrolls: bool,
 }
 
-/// The manners to try, one after another, as long as a crash isn't excluded. A hurried search ends soon,
-/// but its sets may grow too far.
+/// The options to try in this order, until every crash is excluded. A hurried search ends soon, but its
+/// sets may grow too far.
 const MANNERS: [Manner; 3] = [
     Manner {
         hurries: true,
@@ -56,15 +56,15 @@ const MANNERS: [Manner; 3] = [
     },
 ];
 
-/// The notes of a search about a row, in addition to the contents of the table.
+/// What a search records about a row, in addition to the contents of the table.
 #[derive(Clone, Copy)]
 struct Note {
-    /// The number of its call stack.
+    /// The number of the row's call stack.
     stack: u32,
-    /// How often the row has grown.
+    /// The number of times that the row has grown.
     joins: u32,
-    /// The least and the greatest address that its steps load bytes from. If the least is the larger one,
-    /// there are none.
+    /// The lowest and the highest address from which the row's steps load bytes. If the lowest address is the
+    /// larger one, the steps load no bytes.
     least: usize,
     greatest: usize,
 }
@@ -79,16 +79,16 @@ pub(crate) struct Search {
     index: Index,
     stacks: Stacks,
     waiting: Waiting,
-    /// The addresses of the bytes that have grown since the rows that need them were last made to wait.
+    /// The addresses of bytes whose sets have grown since rows were last put on the worklist for them.
     grown: IndexSet,
-    /// The constants of the program and their neighbours, up to which sets grow in a hurry. `None`
-    /// without hurry.
+    /// The constants of the program and their neighbours. In a hurried search, sets are extended up to these.
+    /// `None` if the search doesn't hurry.
     marks: Option<ByteSet>,
-    /// For each address, the number of rows that are told apart by I. Empty if loops aren't unrolled.
+    /// For each address, the number of rows that are distinguished by I. Empty if loops aren't unrolled.
     turns: Vec<u16>,
 }
 
-/// Returns the label by which VF tells rows at one place apart: 0, 1, or 2 for anything else.
+/// Returns the label by which VF distinguishes rows at one place: 0, 1, or 2 for anything else.
 fn label(known: &Known) -> u32 {
     match block(&known.registers, 15) {
         [1, 0, 0, 0] => 0,
@@ -113,7 +113,7 @@ fn frames_after(alloc: Global, frames: &[u16], way: Way) -> Result<Vec<u16>, All
     }
 }
 
-/// Returns the only address of a set, if the set has no other number.
+/// Returns the only address in a set, or `None` if the set contains any other number.
 fn only_address(set: &IndexSet) -> Option<u32> {
     let first = next(set, 0);
     let is_alone = first < PAST && next(set, first + 1) > PAST;
@@ -129,7 +129,7 @@ fn count(set: &ByteSet) -> u32 {
     count
 }
 
-/// Returns the greatest number of a set, or 0.
+/// Returns the greatest number in a set, or 0 if the set is empty.
 fn last(set: &IndexSet) -> usize {
     for back in 0..INDEX_WORDS {
         let word = set[INDEX_WORDS - 1 - back];
@@ -140,7 +140,7 @@ fn last(set: &IndexSet) -> usize {
     0
 }
 
-/// Returns the least and the greatest address that an instruction loads bytes from.
+/// Returns the lowest and the highest address that an instruction loads bytes from.
 fn loaded_from(instr: Instr, index: &IndexSet) -> (usize, usize) {
     match instr {
         Instr::LoadRegisters(x) => (
@@ -153,7 +153,7 @@ fn loaded_from(instr: Instr, index: &IndexSet) -> (usize, usize) {
 }
 
 impl Search {
-    /// Lets a row wait to be stepped from.
+    /// Puts a row on the worklist.
     fn wait(&mut self, number: usize) {
         if let Some(row) = self.table.rows.get(number)
             && let Ok(number) = u32::try_from(number)
@@ -162,7 +162,7 @@ impl Search {
         }
     }
 
-    /// Adds what else may be known to a row.
+    /// Adds further possibilities to what is known in a row.
     fn join(&mut self, number: usize, known: &Known) {
         let Some(row) = self.table.rows.get_mut(number) else {
             return;
@@ -183,7 +183,7 @@ impl Search {
         self.wait(number);
     }
 
-    /// Adds a row, which waits. Returns its number, or `None` if there is no room.
+    /// Adds a row, and puts it on the worklist. Returns its number, or `None` if there are too many rows.
     fn add_row(
         &mut self,
         place: Place,
@@ -212,7 +212,7 @@ impl Search {
         Ok(Some(number as u32))
     }
 
-    /// Returns the place of the row for the end of a step, given the number of the call stack there.
+    /// Returns the place of the row that a step leads to, given the number of the call stack after the step.
     fn place_of(&mut self, stack: u32, successor: &Successor) -> Place {
         let flag = label(&successor.known);
         let mut place = Place {
@@ -224,7 +224,7 @@ impl Search {
             return place;
         };
         if let Some(address) = only_address(&successor.known.index) {
-            // Labels 0 to 2 are without an address.
+            // Labels 0 to 2 don't contain an address.
             place.label = address
                 .saturating_add(1)
                 .saturating_mul(4)
@@ -241,7 +241,7 @@ impl Search {
     }
 
     /// Returns the row that a step from a row leads to, after adding what is known there. Returns `None`
-    /// if there is no room.
+    /// if that would exceed a limit of the search.
     fn row_for(&mut self, from: usize, successor: &Successor) -> Result<Option<u32>, AllocError> {
         let Some(note) = self.notes.get(from) else {
             return Ok(None);
@@ -261,7 +261,7 @@ impl Search {
         self.add_row(place, frames, &successor.known)
     }
 
-    /// Adds what a step from a row leads to. Returns whether there is room.
+    /// Adds what a step from a row leads to. Returns whether the search stayed within its limits.
     fn lead(&mut self, from: usize, successor: &Successor) -> Result<bool, AllocError> {
         let Some(number) = self.row_for(from, successor)? else {
             return Ok(false);
@@ -274,7 +274,7 @@ impl Search {
         Ok(true)
     }
 
-    /// Adds the bytes that a step stores to the memory.
+    /// Adds the bytes that a step stores to the table's memory.
     fn store(&mut self, stored: &Stored) {
         let mut from = next(&stored.at, 0);
         while from <= PAST {
@@ -285,7 +285,7 @@ impl Search {
         }
     }
 
-    /// Adds bytes to the set of an address.
+    /// Adds bytes to the set of possible bytes at an address.
     fn store_at(&mut self, at: usize, values: &ByteSet) {
         for word in 0..4 {
             let place = at.saturating_mul(4).saturating_add(word);
@@ -301,7 +301,7 @@ impl Search {
         }
     }
 
-    /// Adds a stop to those found before, in the order of their addresses.
+    /// Adds a stop to those found before, ordered by address.
     fn stop(&mut self, pc: u16, stop: Stop) -> Result<(), AllocError> {
         if self.table.has_left(pc, stop) {
             return Ok(());
@@ -329,7 +329,7 @@ impl Search {
         Ok(Some(before.execute(self.alloc, instr)?))
     }
 
-    /// Adds what a word may do from a row. Returns whether there is room.
+    /// Adds what a word may do from a row. Returns whether the search stayed within its limits.
     fn take(&mut self, number: usize, word: u16) -> Result<bool, AllocError> {
         let Some(row) = self.table.rows.get(number) else {
             return Ok(true);
@@ -361,7 +361,7 @@ impl Search {
         Ok(true)
     }
 
-    /// Returns the set of the byte at an address.
+    /// Returns the set of possible bytes at an address.
     fn bytes_at(&self, at: usize) -> ByteSet {
         if at < MEMORY_BYTES && self.table.memory.len() == SETS_WORDS {
             block(&self.table.memory, at)
@@ -370,7 +370,7 @@ impl Search {
         }
     }
 
-    /// Makes the steps from a row. Returns whether there is room for what they lead to.
+    /// Executes the steps from a row. Returns whether the search stayed within its limits.
     fn step_from(&mut self, number: usize) -> Result<bool, AllocError> {
         let Some(row) = self.table.rows.get(number) else {
             return Ok(true);
@@ -399,7 +399,7 @@ impl Search {
         Ok(true)
     }
 
-    /// Whether a row needs a byte that has grown, either one of its word or one that it loads.
+    /// Whether a row needs a byte whose set has grown: a byte of its word, or a byte that it loads.
     fn asks_for_grown(&self, number: usize) -> bool {
         let Some(row) = self.table.rows.get(number) else {
             return false;
@@ -411,7 +411,7 @@ impl Search {
             || next(&self.grown, note.least) <= note.greatest
     }
 
-    /// Lets the rows that need a byte that has grown wait again. Returns whether any byte has grown.
+    /// Puts the rows that need a byte whose set has grown on the worklist. Returns whether any set has grown.
     fn wait_for_grown(&mut self) -> bool {
         if next(&self.grown, 0) >= BYTES {
             return false;
@@ -425,8 +425,8 @@ impl Search {
         true
     }
 
-    /// Makes steps from all rows that wait, until none does. Returns whether that ended within the given
-    /// number of steps and within the available room.
+    /// Executes steps until the worklist is empty. Returns whether that happened within the given number of
+    /// steps and within the limits of the search.
     fn run(&mut self, most_steps: usize) -> Result<bool, AllocError> {
         for _ in 0..most_steps {
             match self.waiting.take() {
@@ -445,7 +445,7 @@ impl Search {
         Ok(false)
     }
 
-    /// Returns a search that begins with the state before the first step.
+    /// Returns a search that starts with the state before the first step.
     fn new(
         alloc: Global,
         image: &[u8],
@@ -495,7 +495,7 @@ impl Search {
     }
 }
 
-/// Returns the table of a search that ended.
+/// Returns the table of a finished search.
 fn table_of(search: Search) -> Table {
     let Search {
         alloc: _,
@@ -512,7 +512,7 @@ fn table_of(search: Search) -> Table {
     table
 }
 
-/// Returns how many of the stops that a table doesn't exclude are crashes.
+/// Returns the number of crashes among the stops that a table doesn't exclude.
 fn crashes(table: &Table) -> usize {
     let mut count: usize = 0;
     for left in &table.left {
@@ -523,8 +523,8 @@ fn crashes(table: &Table) -> usize {
     count
 }
 
-/// Returns a table for an image, if the first manner finds one within a number of steps. Of the tables
-/// found, it is the one that leaves the fewest crashes.
+/// Returns a table for an image, or `None` if the first options lead to none within a number of steps. If
+/// several options lead to a table, returns the one with the fewest crashes that aren't excluded.
 pub(crate) fn find(
     alloc: Global,
     image: &[u8],

@@ -1,4 +1,4 @@
-//! The call stacks of the rows of a search. Each has a number, so that two are compared at once.
+//! The call stacks of the rows of a search. Each one has a number, so that comparing two is fast.
 
 use crate::outcome::Way;
 use std::alloc::{AllocError, Global};
@@ -6,22 +6,22 @@ use std::alloc::{AllocError, Global};
 /// The number that stands for no call stack.
 const NO_STACK: u32 = u32::MAX;
 
-/// The largest number of call stacks of a search.
+/// The maximum number of call stacks of a search.
 const MOST_STACKS: usize = 2_000;
 
 /// A call stack.
 #[derive(Clone, Copy)]
 struct Stack {
-    /// The number of the call stack without the newest return address. The empty one is its own caller.
+    /// The number of the call stack without the newest return address. The empty call stack is its own caller.
     caller: u32,
     back: u16,
-    /// The number of a call stack with one more return address, and that of another call stack with the
-    /// same caller.
+    /// The number of one call stack with one more return address, and the number of another call stack with
+    /// the same caller.
     callee: u32,
     other: u32,
 }
 
-/// The call stacks of a search. The empty one has number 0.
+/// The call stacks of a search. The empty call stack has number 0.
 #[derive(Drop)]
 pub(crate) struct Stacks {
     list: Vec<Stack>,
@@ -44,7 +44,7 @@ impl Stacks {
         self.list.get(number as usize).copied()
     }
 
-    /// Returns the number of the call stack after a step, or `None` if there is no room for it.
+    /// Returns the number of the call stack after a step, or `None` if there are too many call stacks.
     pub(crate) fn after(&mut self, number: u32, way: Way) -> Result<Option<u32>, AllocError> {
         match way {
             Way::Same => Ok(Some(number)),
@@ -53,8 +53,8 @@ impl Stacks {
         }
     }
 
-    /// Returns the number of the call stack with one more return address, or `None` if there is no room
-    /// for it.
+    /// Returns the number of the call stack with one more return address, or `None` if there are too many call
+    /// stacks.
     fn called(&mut self, caller: u32, back: u16) -> Result<Option<u32>, AllocError> {
         let Some(first) = self.get(caller) else {
             return Ok(None);

@@ -1,28 +1,28 @@
-//! The rows that wait to be stepped from. A row at the least address goes first, so that inner loops come
-//! to rest before the code that follows them.
+//! The worklist: the rows that the search still has to execute steps from. The row at the lowest address
+//! goes first, so that inner loops reach a fixed point before the code that follows them.
 
 use crate::bits::{insert, next, remove};
 use chip_lang::limits::MEMORY_BYTES;
 use std::alloc::{AllocError, Global};
 
-/// The number of addresses that rows may be at: those of the memory, and those that a jump by a register
-/// may lead to.
+/// The number of addresses that rows may be at: those of the memory, and those past it that a jump with
+/// an offset may lead to.
 pub(crate) const PLACES: usize = MEMORY_BYTES + 512;
 
 /// The number that stands for no row.
 const NO_ROW: u32 = u32::MAX;
 
-/// The rows that wait to be stepped from.
+/// The rows that the search still has to execute steps from.
 #[derive(Drop)]
 pub(crate) struct Waiting {
-    /// The addresses at which a row waits.
+    /// The addresses at which a row is waiting.
     places: [u64; PLACES / 64],
-    /// The row that waits at each address, or `NO_ROW`.
+    /// A row that is waiting at each address, or `NO_ROW`.
     first: Vec<u32>,
     rows: Vec<Wait>,
 }
 
-/// Whether a row waits, and the number of another row that waits at its address, or `NO_ROW`.
+/// Whether a row is waiting, and the number of another row that is waiting at its address, or `NO_ROW`.
 #[derive(Clone, Copy)]
 struct Wait {
     waits: bool,
@@ -38,7 +38,7 @@ impl Waiting {
         })
     }
 
-    /// Adds a row, which doesn't wait.
+    /// Adds a row, which isn't waiting.
     pub(crate) fn add(&mut self) -> Result<(), AllocError> {
         self.rows.push(Wait {
             waits: false,
@@ -47,7 +47,7 @@ impl Waiting {
         Ok(())
     }
 
-    /// Lets a row at an address wait.
+    /// Marks a row at an address as waiting.
     pub(crate) fn put(&mut self, pc: u16, number: u32) {
         let Some(first) = self.first.get_mut(pc as usize) else {
             return;
@@ -64,7 +64,7 @@ impl Waiting {
         insert(&mut self.places, pc as usize);
     }
 
-    /// Returns a row that waits at the least address, and removes it from the waiting ones.
+    /// Returns a row that is waiting at the lowest address, and removes it from the waiting rows.
     pub(crate) fn take(&mut self) -> Option<u32> {
         let pc = next(&self.places, 0);
         let first = self.first.get_mut(pc)?;

@@ -1,10 +1,10 @@
-//! The growth of sets. What is known is joined, and sets that grow again and again are made to grow further.
+//! The growth of sets. What is known is joined, and sets that keep growing are extended further at once.
 
 use crate::bits::{contains, insert, next};
 use crate::byte_set::{ByteSet, block};
 use crate::known::Known;
 
-/// The largest distance between two bytes of a set that is taken for a step of its growth.
+/// The maximum distance between two bytes of a set that counts as one step of its growth.
 const MOST_DISTANCE: usize = 64;
 
 /// Returns the constants of the instructions of an image, and their neighbours.
@@ -23,7 +23,7 @@ pub(crate) fn marks_of(image: &[u8]) -> ByteSet {
     marks
 }
 
-/// Returns the bytes of a set that another one doesn't have.
+/// Returns the bytes of a set that another set doesn't contain.
 fn added(old: &ByteSet, new: &ByteSet) -> ByteSet {
     let mut set = *new;
     for i in 0..4 {
@@ -32,8 +32,8 @@ fn added(old: &ByteSet, new: &ByteSet) -> ByteSet {
     set
 }
 
-/// Adds to the set of a register what it will grow to: if a new byte is a distance from an old one, the
-/// bytes at that distance one after another, up to a mark.
+/// Adds the bytes that a register's set is expected to grow to. If a new byte has a distance from an old
+/// byte, adds the bytes that follow at this distance, up to a mark.
 fn extrapolate(old: &ByteSet, new: &mut ByteSet, marks: &ByteSet) {
     let fresh = added(old, new);
     let mut byte = next(&fresh, 0);
@@ -52,7 +52,7 @@ fn extrapolate(old: &ByteSet, new: &mut ByteSet, marks: &ByteSet) {
     }
 }
 
-/// Adds the bytes from `from` up, a distance apart, up to a mark.
+/// Adds the bytes upwards from `from` at a distance from each other, up to a mark.
 fn grow_up(set: &mut ByteSet, marks: &ByteSet, from: usize, distance: usize) {
     let mut byte = from;
     for _ in 0..256 {
@@ -67,7 +67,7 @@ fn grow_up(set: &mut ByteSet, marks: &ByteSet, from: usize, distance: usize) {
     }
 }
 
-/// Adds the bytes from `from` down, a distance apart, down to a mark.
+/// Adds the bytes downwards from `from` at a distance from each other, down to a mark.
 fn grow_down(set: &mut ByteSet, marks: &ByteSet, from: usize, distance: usize) {
     let mut byte = from;
     for _ in 0..256 {
@@ -82,7 +82,7 @@ fn grow_down(set: &mut ByteSet, marks: &ByteSet, from: usize, distance: usize) {
     }
 }
 
-/// Adds what else may be known.
+/// Adds the possibilities of `other` to what is known.
 pub(crate) fn widen(known: &mut Known, other: &Known) {
     for i in 0..64 {
         known.registers[i] |= other.registers[i];
@@ -95,7 +95,7 @@ pub(crate) fn widen(known: &mut Known, other: &Known) {
     known.may_be_high = known.may_be_high || other.may_be_high;
 }
 
-/// Makes the sets of registers that have grown grow further.
+/// Extends the sets of registers that have grown.
 pub(crate) fn hurry(known: &mut Known, old: &[u64; 64], marks: &ByteSet) {
     for x in 0..16 {
         let before = block(old, x);

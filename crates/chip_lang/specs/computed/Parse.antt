@@ -1,5 +1,5 @@
 -- The expression that a list of tokens begins with, computed within a number of steps (chosen by
--- this project). A law says that it is the expression of the grammar.
+-- this project). A law states that it is the expression of the grammar.
 use Rattle.std.specs.Prelude.{ℕ, zero, suc, ◌+◌, ◌*◌, ◌==◌, if◌then◌else◌, pos, List, [], ◌∷◌, length, Option, Some, None}
 use Rattle.chip_lang.specs.declared.lexeme.Lexeme.{Lexeme}
 use Rattle.chip_lang.specs.declared.lexeme.Lexeme.TheVariants.{Word, Number, Text, Sign, Bad}
@@ -47,7 +47,7 @@ abbrev pub after : List Lexeme → List Lexeme
 after [] = []
 after (t ∷ ts) = ts
 
--- goes on with the expression that was found and the tokens after it
+-- continues with the expression that was found and the tokens after it
 abbrev pub on_found : Parsed → (Tree → List Lexeme → Parsed) → Parsed
 on_found None go = None
 on_found (Some x) go = go x.0 x.1
@@ -107,6 +107,6 @@ whole None = None
 whole (Some (e, [])) = Some e
 whole (Some (e, t ∷ ts)) = None
 
--- the expression that the tokens are, if they are one
+-- the expression that the tokens form, if they form one
 unfoldable pub expression_of : List Lexeme → Option Tree
 expression_of ts = whole (parse (9 * length ts + 8) 7 ts)

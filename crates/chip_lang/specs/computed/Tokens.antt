@@ -1,11 +1,10 @@
--- The tokens of a line, found byte by byte (chosen by this project). A law says that Scan allows
+-- The tokens of a line, found byte by byte (chosen by this project). A law states that Scan allows
 -- this list and no other.
 use Rattle.std.specs.Prelude.{ℕ, zero, suc, ◌+◌, ◌-◌, ◌==◌, if◌then◌else◌, List, [], ◌∷◌}
 use Rattle.chip_lang.specs.declared.token.Token.{Token}
 use Rattle.chip_lang.specs.Token.{is_blank, token_at}
 
--- The tokens in the bytes from a place on, of which the first `skip` bytes belong to the token
--- before.
+-- The tokens in the bytes from a place on. The first `skip` bytes belong to the token before.
 abbrev pub tokens_from : (place skip : ℕ) → List ℕ → List Token
 tokens_from place skip [] = []
 tokens_from place (suc skip) (b ∷ bytes) = tokens_from (place + 1) skip bytes

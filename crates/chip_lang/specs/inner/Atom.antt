@@ -1,4 +1,4 @@
--- The expression that one token is, without parentheses (chosen by this project).
+-- The expression that one token forms, without parentheses (chosen by this project).
 use Rattle.std.specs.Prelude.{if◌then◌else◌, [], Option, Some, None}
 use Rattle.chip_lang.specs.declared.lexeme.Lexeme.{Lexeme}
 use Rattle.chip_lang.specs.declared.lexeme.Lexeme.TheVariants.{Word, Number, Text, Sign, Bad}
@@ -6,7 +6,7 @@ use Rattle.chip_lang.specs.Expression.{Tree, number, name}
 use Rattle.chip_lang.specs.Reserved.{is_reserved}
 use Rattle.chip_lang.specs.computed.Parse.{one_byte, whole}
 
--- the expression that a number, a name or a text of one byte is
+-- the expression that a number, a name or a text of one byte forms
 abbrev pub atom_of : Lexeme → Option Tree
 atom_of (Word w) = if is_reserved w then None else Some (name w)
 atom_of (Number z) = Some (number z)

@@ -64,7 +64,7 @@ pub record IsWhole (names : List (List ℕ)) (items : List Item) : Type 0 where
   pub one : popped (stack_of names items) ≡ []
   pub all : names_of names items ≡ names
 
--- ---- a tree as items, each with the name in it; proofs use it to tell two trees apart
+-- ---- a tree as items, each with the name in it; proofs use these items to tell two trees apart
 
 abbrev pub pushed_named : List Tree → Item × List ℕ → List Tree
 pushed_named stack (i, n) = pushed (n ∷ []) stack i

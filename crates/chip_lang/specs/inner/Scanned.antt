@@ -1,4 +1,4 @@
--- The tokens that are left while a line is read.
+-- The tokens that are still to be read in a line.
 use Rattle.std.specs.Prelude.{ℕ, List, [], ◌∷◌, Option, Some, None, drop}
 use Rattle.chip_lang.specs.declared.token.Token.{Token}
 use Rattle.chip_lang.specs.computed.Tokens.{tokens_from}

@@ -5,7 +5,7 @@ use Rattle.chip_lang.specs.declared.shape.Shape.{Shape as Line_shape}
 use Rattle.chip_lang.specs.declared.shape.Shape.TheVariants.{Definition, Statement}
 use Rattle.chip_lang.specs.Line.{Shape, definition, statement}
 
--- the shape that a value of the program stands for
+-- the shape that a value of the program represents
 abbrev pub seen_shape : Line_shape → Shape
 seen_shape (Definition name value) = definition name.now value.now
 seen_shape (Statement label tokens) = statement (option_copied label) tokens.now

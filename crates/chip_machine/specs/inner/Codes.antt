@@ -1,4 +1,4 @@
--- How the parts of the state are stored as data, with which a proof distinguishes two states.
+-- How the parts of the state are encoded as data, so that proofs can distinguish two states.
 -- Source: chosen by this project.
 use Rattle.std.specs.Prelude.{ℕ, Bool, List, Option, refl}
 use Rattle.std.specs.Coded.{Coded, code_by, coded×, coded_ℕ, coded_bool, coded_list, coded_option}

@@ -1,4 +1,4 @@
--- Proofs, which a reader may skip: memory after bytes were exchanged, address by address.
+-- Proofs, which a reader may skip: memory after bytes are exchanged, address by address.
 -- Source: chosen by this project.
 use Rattle.std.proofs.Common.{◌≡◌, ◌≢◌, ℕ, ◌+◌, ◌-◌, ◌<◌, ◌≤◌, true, false, List, length, take, get_or, set, slice_index, refl, sym, ap, ◌∙◌, subst, arith, inl, inr, get_or-take, get_or-set_same, get_or-set_other, length-set, length-take}
 use Rattle.std.specs.Prelude.{◌==◌, ◌&&◌, not, nat_le, if◌then◌else◌}
@@ -8,7 +8,7 @@ use Rattle.std.proofs.lemmas.Bool.{cases_lt, cases_eq}
 use Rattle.std.proofs.lemmas.Bool.Decides.{nat_tests}
 use Rattle.chip_machine.specs.State.{differ_at, exchanged}
 
--- the new byte if it differs from the old one, otherwise the byte of the memory
+-- the new byte if it differs from the old byte, otherwise the byte of the memory
 abbrev pub chosen : ℕ → ℕ → ℕ → ℕ
 chosen there old new = if not (old == new) then new else there
 
@@ -56,7 +56,7 @@ unfolding exchanged
 get_or-exchanged m from old new at l =
     get_or-map-range_with_len (byte_after m from old new) 0 (length m) at at 0 l (omega arith)
 
--- the byte at an address before the exchanged ones, and the byte at a place among them
+-- the byte at an address before the exchanged bytes, and the byte at an index among them
 pub get_or-exchanged_before : (m : List ℕ) (from : ℕ) (old new : List ℕ) (at : ℕ) → at < length m
     → at < from → get_or (exchanged m from old new) at 0 ≡ get_or m at 0
 get_or-exchanged_before m from old new at l low =
@@ -68,7 +68,7 @@ pub get_or-exchanged_at : (m : List ℕ) (from : ℕ) (old new : List ℕ) (at i
 get_or-exchanged_at m from old new at i l e =
     get_or-exchanged m from old new at l ∙ byte_after-at m from old new at i e
 
--- a memory with these bytes is the exchanged memory
+-- a memory with these bytes equals the exchanged memory
 pub is_exchanged : (m n : List ℕ) (from : ℕ) (old new : List ℕ) → length n ≡ length m
     → ((at : ℕ) → at < length m → at < from → get_or n at 0 ≡ get_or m at 0)
     → ((at i : ℕ) → at < length m → at ≡ from + i
@@ -105,7 +105,7 @@ take_other n xs i off =
       | inr a ↦ get_or-take_past n xs i a ∙ sym (get_or-take_past (n + 1) xs i (omega arith))
     ]
 
--- the next byte before it is exchanged
+-- the next byte, before it is exchanged
 pub exchanged-next : (m : List ℕ) (from : ℕ) (old new : List ℕ) (at i : ℕ) → at < length m
     → at ≡ from + i → get_or (exchanged m from (take i old) (take i new)) at 0 ≡ get_or m at 0
 exchanged-next m from old new at i l e =
@@ -120,7 +120,7 @@ exchanged_none m from old new =
     is_exchanged m m from (take 0 old) (take 0 new) refl (λ at l low. refl)
     (λ at i l e. sym (chosen-same (get_or m at 0) 0 0 refl))
 
--- the memory after one more place
+-- the memory after one more index
 pub exchanged_more : (m : List ℕ) (from : ℕ) (old new : List ℕ) (at i v : ℕ) → at ≡ from + i
     → v ≡ chosen (get_or m at 0) (get_or old i 0) (get_or new i 0)
     → set (exchanged m from (take i old) (take i new)) at v
@@ -156,7 +156,7 @@ exchanged_more m from old new at i v e is =
           (take_other i new j other))
     ])
 
--- a place where the two don't differ
+-- an index at which the two lists don't differ
 pub exchanged_skip : (m : List ℕ) (from : ℕ) (old new : List ℕ) (i : ℕ)
     → get_or old i 0 ≡ get_or new i 0
     → exchanged m from (take i old) (take i new)
@@ -177,7 +177,7 @@ exchanged_skip m from old new i same =
           ∙ ap (λ y. chosen x (get_or (take (i + 1) old) j 0) y) (take_other i new j off)
     ])
 
--- no later place where the two differ
+-- the two lists differ at no later index
 pub exchanged_rest : (m : List ℕ) (from : ℕ) (old new : List ℕ) (n : ℕ)
     → ((i : ℕ) → n ≤ i → get_or old i 0 ≡ get_or new i 0)
     → exchanged m from (take n old) (take n new) ≡ exchanged m from old new
@@ -193,7 +193,7 @@ exchanged_rest m from old new n same =
           ∙ sym (chosen-same x (get_or old i 0) (get_or new i 0) (same i a))
     ])
 
--- the memory after all places
+-- the memory after all indexes
 pub exchanged_all : (m : List ℕ) (from : ℕ) (old new : List ℕ) (n : ℕ) → length old ≤ n
     → length new ≤ n → exchanged m from (take n old) (take n new) ≡ exchanged m from old new
 exchanged_all m from old new n lo ln =

@@ -4,7 +4,7 @@ use Rattle.std.specs.Prelude.{◌≡◌, List, ℕ, ◌∷◌, ◌++◌, length,
 use Rattle.memchr.specs.Find.{Nowhere, Passes, is_byte}
 use Rattle.chip_machine.specs.QuirkList.{comma}
 
--- the part before the comma, and the rest after it if there is a comma
+-- the part before the comma, and the rest after that comma if there is one
 abbrev pub IsFirstPart : (text part : List ℕ) → Option (List ℕ) → Type 0
 IsFirstPart text part None =
     (text ≡ part) × Nowhere (Passes (is_byte comma) part) 0 (length part)

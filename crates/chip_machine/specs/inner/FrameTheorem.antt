@@ -1,6 +1,6 @@
--- Proofs, which a reader may skip: the frame law holds, by cases on what the instruction needs of
--- the memory (nothing, bytes that it reads, or bytes that it writes), and a step keeps a state
--- proper.
+-- Proofs, which a reader may skip: the frame law holds, and a step preserves that a state is proper.
+-- The cases are what the instruction needs from memory: nothing, bytes that it reads, or bytes that
+-- it writes.
 -- Source: chosen by this project.
 use Rattle.std.proofs.Common.{◌≡◌, ℕ, ◌+◌, ◌-◌, ◌<◌, ◌≤◌, Bool, true, false, IsFalse, List, [], ◌∷◌, length, take, drop, get_or, refl, sym, ap, ◌∙◌, arith, Some, suc, subst, Result, Ok, Err, nat_lt, is_some, if◌then◌else◌, inl, inr}
 use Rattle.std.specs.List.{range_with_len}
@@ -20,7 +20,7 @@ use Rattle.chip_machine.specs.Frame.{FrameLaw, StepKeepsProper, SameOff, SameOn,
 use Rattle.chip_machine.specs.inner.Overwritten.{get_or-overwrite, in_row_true, length-overwrite}
 use Rattle.chip_machine.specs.Forgotten.{is_in_row}
 
--- two outcomes are alike, and each kept the bytes of its memory in the set
+-- two outcomes are alike, and each left the bytes in the set unchanged
 abbrev AreAlike : (ℕ → Bool) → List ℕ → List ℕ → Result State Stop → Result State Stop → Type 0
 AreAlike set m n (Ok x) (Ok y) =
     (x.core ≡ y.core) × SameOff set x.memory y.memory × SameOn set x.memory m
@@ -28,7 +28,7 @@ AreAlike set m n (Ok x) (Ok y) =
 AreAlike set m n (Err v) (Err w) = v ≡ w
 AreAlike set m n _ _ = ⊥
 
--- an address of a span that misses the set isn't in the set
+-- an address in a span that misses the set isn't in the set
 missed : (set : ℕ → Bool) (i count at : ℕ) → Misses set (range_with_len i count) → i ≤ at
     → at < i + count → IsFalse (set at)
 missed set i count at misses low high =
@@ -36,7 +36,7 @@ missed set i count at misses low high =
     = grind (arith, get_or-range_with_len) in
     rw e at (misses (at - i) 0 (rw length-range_with_len (omega arith)))
 
--- the bytes that both read are the same
+-- the bytes read from both memories are the same
 same_part : (set : ℕ → Bool) (m n : List ℕ) (i count : ℕ) → length m ≡ MEMORY_BYTES
     → length n ≡ MEMORY_BYTES → SameOff set m n → Misses set (range_with_len i count)
     → take count (drop i m) ≡ take count (drop i n)
@@ -111,7 +111,7 @@ perform_alike set keys c m n (Loads count core_by) lm ln same misses =
 perform_alike set keys c m n (Stores bytes core) lm ln same misses =
     store_alike set c.index core m n bytes lm ln same (is_past c.index (length bytes)) refl misses
 
--- the end of two steps
+-- the ends of two steps
 settle_alike : (set : ℕ → Bool) (tick : Bool) (c : Core) (m n : List ℕ) (r s : Result State Stop)
     → SameOff set m n → AreAlike set m n r s
     → (DifferOnlyAt set (settle tick (record { core = c; memory = m }) r)
@@ -130,7 +130,7 @@ settle_alike set tick c m n (Err v) (Err w) same h = (
 )
 settle_alike set tick c m n _ _ same h = absurd h
 
--- the words at pc are the same, and so are their effects
+-- the words at pc are the same, and so their effects are the same
 effect_alike : (set : ℕ → Bool) (c : Core) (m n : List ℕ) (rest : List ℕ) (past : Bool)
     → SameOff set m n → nat_lt LAST_WORD c.pc ≡ past
     → Misses set (if past then [] else (c.pc ∷ (c.pc + 1) ∷ rest))
@@ -143,7 +143,7 @@ effect_alike set c m n rest false same e misses =
     ap (λ (w : ℕ). if nat_lt LAST_WORD c.pc then Stops cause.PcOutOfRange
     else effect_of_word (decode_of w) c) word
 
--- the touches and the step, given the results of the two tests that come first
+-- the touches and the step, given the results of the first two tests
 abbrev touched_by : Bool → Bool → Core → List ℕ → List ℕ
 touched_by stopped past c m =
     if stopped then []
@@ -162,7 +162,7 @@ access_misses : (set : ℕ → Bool) (c : Core) (m : List ℕ) (past : Bool)
 access_misses set c m true e misses = rw e (λ k d h. absurd (omega arith))
 access_misses set c m false e misses = λ k d h. misses (suc (suc k)) d (omega arith)
 
--- the touches and the step of two states, by cases on the two tests that come first
+-- the touches and the step of two states, by cases on the first two tests
 step_alike : (set : ℕ → Bool) (keys : ℕ) (tick : Bool) (c : Core) (m n : List ℕ)
     → length m ≡ MEMORY_BYTES → length n ≡ MEMORY_BYTES → SameOff set m n → (stopped past : Bool)
     → nat_lt LAST_WORD c.pc ≡ past → Misses set (touched_by stopped past c m)
@@ -245,7 +245,7 @@ size_by true keys tick s lm = lm
 size_by false keys tick s lm =
     settle_size tick s _ lm (perform_size keys s.core s.memory (effect_at s) lm)
 
--- a step keeps a state proper
+-- a step preserves that a state is proper
 pub step_keeps_proper : StepKeepsProper
 unfolding step_of
 step_keeps_proper s keys tick proper =

@@ -1,5 +1,5 @@
 -- Proofs, which a reader may skip: a set of forgotten parts and bytes as one number, and the fields
--- that make it up.
+-- that the number consists of.
 -- Source: chosen by this project.
 use Rattle.std.proofs.Common.{◌≡◌, ℕ, ◌+◌, ◌*◌, ◌/◌, ◌%◌, ◌^◌, ◌<◌, ap, ◌∙◌}
 use Rattle.std.proofs.lemmas.Nat.{div-mul-add, mod-mul-add}

@@ -1,5 +1,5 @@
--- The property that tokens state, found piece by piece (chosen by this project). A law says that it is
--- the one of Language, and that there is no other.
+-- The property that tokens state, found piece by piece (chosen by this project). A law states that
+-- the result is the property of Language, and that there is no other.
 use Rattle.std.specs.Prelude.{ℕ, ◌+◌, ◌==◌, ◌||◌, Bool, true, false, not, if◌then◌else◌, nat_lt, pos, negsuc, ℤ, List, [], ◌∷◌, ◌++◌, length, Option, Some, None, Result, Ok, Err, is_some, option_map, option_and_then, codes, drop}
 use Rattle.chip_lang.specs.declared.fault.Fault.{Fault}
 use Rattle.chip_lang.specs.declared.limits.TheConstants.{MEMORY_BYTES}
@@ -71,7 +71,7 @@ byte_in symbols ts =
     option_and_then (λ inside. option_map Byte (number_below_in MEMORY_BYTES symbols inside))
     (enclosed 91 93 ts)
 
--- an item that a property may ask for
+-- an item that a property can use
 abbrev pub item_in : Symbols → List Lexeme → Option Item
 item_in symbols [] = byte_in symbols []
 item_in symbols (Word w ∷ []) = item_of_word w
@@ -79,7 +79,7 @@ item_in symbols (t ∷ []) = byte_in symbols (t ∷ [])
 item_in symbols (t ∷ u ∷ ts) =
     if is_the (codes "PIXEL") t then pixel_in symbols (u ∷ ts) else byte_in symbols (t ∷ u ∷ ts)
 
--- whether tokens begin like something that a property may ask for
+-- whether tokens begin like an item that a property can use
 abbrev pub is_item : List Lexeme → Bool
 is_item [] = false
 is_item (Word w ∷ []) = is_some (item_of_word w)
@@ -102,17 +102,17 @@ times_in symbols front (Some back) =
 abbrev pub addend_in : Symbols → List Lexeme → Option Addend
 addend_in symbols ts = times_in symbols (before_first Times ts) (after_first Times ts)
 
--- a sum with one more addend, if its number has at most 32 bits
+-- a sum with one more addend, if the sum's numbers together have at most 32 bits
 abbrev pub with_addend : SeenSum → Addend → Option SeenSum
 with_addend s (a_number n) =
     if nat_lt (s.constant + n) 4294967296 then Some (record s { constant = s.constant + n }) else None
 with_addend s (times n i) = Some (record s { terms = s.terms ++ record { factor = n; item = i } ∷ [] })
 
--- a sum with the addend that a piece is
+-- a sum with the addend that a piece forms
 abbrev pub added_in : Symbols → SeenSum → List Lexeme → Option SeenSum
 added_in symbols s ts = option_and_then (with_addend s) (addend_in symbols ts)
 
--- a sum of `count` addends, with the addends that some pieces are
+-- a sum of `count` addends, with the addends that some pieces form
 abbrev pub summed : Symbols → ℕ → SeenSum → List (List Lexeme) → Option SeenSum
 summed symbols count s [] = Some s
 summed symbols count s (p ∷ ps) =
@@ -125,7 +125,7 @@ no_sum = record { constant = 0; terms = [] }
 abbrev pub sum_in : Symbols → List Lexeme → Option SeenSum
 sum_in symbols ts = summed symbols 0 no_sum (pieces Plus 0 ts)
 
--- the relation with which tokens begin, and the tokens after it
+-- the relation that tokens begin with, and the tokens after it
 abbrev pub less_in : List Lexeme → Option (Relation × List Lexeme)
 less_in [] = Some (Less, [])
 less_in (t ∷ ts) =
@@ -152,7 +152,7 @@ abbrev pub comparison_in : Symbols → List Lexeme → Option SeenComparison
 comparison_in symbols ts =
     option_and_then (compared symbols (before_first relation ts)) (relation_in (from_first relation ts))
 
--- the comparisons found before, and those that some pieces are
+-- the comparisons found before, and those that some pieces form
 abbrev pub found_with : Symbols → List SeenComparison → List (List Lexeme) → Option (List SeenComparison)
 found_with symbols found [] = Some found
 found_with symbols found (p ∷ ps) =
@@ -197,7 +197,7 @@ abbrev pub is_always : Kind → Bool
 is_always Always = true
 is_always k = false
 
--- the condition before a place, or one that always holds if it is left out
+-- the condition before a place, or a condition that always holds if it is omitted
 abbrev pub given_in : Symbols → Kind → (front back : List Lexeme) → Option SeenCondition
 given_in symbols kind [] [] = None
 given_in symbols kind [] (t ∷ ts) = if is_always kind then None else Some no_condition
@@ -212,7 +212,7 @@ property_in symbols here kind ts =
     (place_in symbols here (from_first Place ts)))
     (given_in symbols kind (before_first Place ts) (from_first Place ts))
 
--- the kind with which tokens begin
+-- the kind whose word tokens begin with
 abbrev pub kind_in_front : List Lexeme → Option Kind
 kind_in_front [] = None
 kind_in_front (Word w ∷ ts) = kind_of_word w
@@ -225,7 +225,7 @@ abbrev pub begun_by : Symbols → Option ℕ → Option Kind → List Lexeme →
 begun_by symbols here None ts = of_kind symbols here Always ts
 begun_by symbols here (Some kind) ts = of_kind symbols here kind (drop 1 ts)
 
--- the kind and the property that tokens state, for a given kind or else the one with which they begin
+-- the kind and the property that tokens state, for a given kind or else the kind whose word they begin with
 abbrev pub stated_in : Symbols → Option ℕ → Option Kind → List Lexeme → Option (Kind × SeenProperty)
 stated_in symbols here None ts = begun_by symbols here (kind_in_front ts) ts
 stated_in symbols here (Some kind) ts = of_kind symbols here kind ts

@@ -38,18 +38,18 @@ tail_of (t ∷ ts) = Some ts
 abbrev pub after_first : Separator → List Lexeme → Option (List Lexeme)
 after_first separator ts = tail_of (from_first separator ts)
 
--- the tokens before a closing sign, if they end with it
+-- the tokens before a closing sign, if the tokens end with it
 abbrev pub ended : ℕ → List Lexeme → Option (List Lexeme)
 ended close [] = None
 ended close (t ∷ []) = if is_sign_of close t then Some [] else None
 ended close (t ∷ u ∷ ts) = option_map (λ front. t ∷ front) (ended close (u ∷ ts))
 
--- the tokens between two signs, if they begin and end with these
+-- the tokens between two signs, if the tokens begin and end with these signs
 abbrev pub enclosed : ℕ → ℕ → List Lexeme → Option (List Lexeme)
 enclosed first last [] = None
 enclosed first last (t ∷ ts) = if is_sign_of first t then ended last ts else None
 
--- pieces whose first one begins with one more token
+-- pieces with one more token at the front of the first piece
 abbrev pub with_front : Lexeme → List (List Lexeme) → List (List Lexeme)
 with_front t [] = (t ∷ []) ∷ []
 with_front t (p ∷ ps) = (t ∷ p) ∷ ps

@@ -11,8 +11,8 @@ use Rattle.chip_properties.specs.declared.reader.Reader.{Reader}
 abbrev pub symbols_read : Reader → Symbols
 symbols_read reader = values_of (symbols_of reader.source.now.lines)
 
--- the result is the expected one, apart from where it lies in memory; an error means that memory ran out,
--- or that nothing was expected
+-- the result is the expected one, apart from its place in memory; an error means that memory ran
+-- out, or that no result was expected
 abbrev pub IsReadAs : {A B : Type 0} → (A → B) → Option B → Result A Failure → Type 0
 IsReadAs seen expected (Ok x) = expected ≡ Some (seen x)
 IsReadAs seen expected (Err e) = (e ≡ OutOfMemory) ⊎ (expected ≡ None)

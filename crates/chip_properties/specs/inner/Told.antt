@@ -6,12 +6,12 @@ use Rattle.chip_properties.specs.declared.properties.Properties.{Properties}
 use Rattle.chip_properties.specs.declared.stated.Stated.{Stated}
 use Rattle.chip_properties.specs.Lines.{IsStatedOn, StandsOn, States}
 
--- a result is what the line with a number states, or its fault
+-- a result is the property that the line with a number states, or the line's fault
 abbrev pub IsAnswer : List (List ℕ) → ℕ → Result Stated PropertyFault → Type 0
 IsAnswer lines number (Ok s) = (s.line ≡ number) × IsStatedOn lines s
 IsAnswer lines number (Err fault) = (fault.line ≡ number) × StandsOn lines fault
 
--- the effect of the line with a number: nothing if it states nothing, otherwise one more property or fault
+-- the effect of the line with a number: none if it states nothing, otherwise one more property or fault
 pub data IsRead : List (List ℕ) → ℕ → (old new : Properties) → Type 0 where
   nothing : {lines : List (List ℕ)} {number : ℕ} {old new : Properties}
       → ((start : ℕ) (f : LineFacts) → States lines number start f → ⊥)

@@ -1,20 +1,20 @@
--- The data kept about the key events in the order of their steps.
+-- The data kept about the key events, ordered by step.
 -- Source: chosen by this project.
---     rank           the number of an event in that order, from its step and key
+--     rank           the number of an event in that order, computed from its step and key
 --     IsInOrder      events are in that order, and each has one of the 16 keys
---     IsFirstFrom    a place separates the events before a step from the others
+--     IsFirstFrom    an index separates the events before a step from the other events
 --     all_events     the events of all pages
 --     count_before   the number of events in the pages before a page
---     index_of       the index, among all events, of the event at a place in the pages
+--     index_of       the index, among all events, of the event at a position in the pages
 --     IsPage         a page is neither empty nor too large
---     IsPlace        a place is that of an event, or lies past all pages
---     HasRoom        an event can be inserted at a place of a page
---     after_events   a table that says for each key whether it is down, after the first n events
+--     IsPlace        a position is that of an event, or lies past all pages
+--     HasRoom        an event can be inserted at a position in a page
+--     after_events   a table of whether each key is down after the first n events
 --     change_at      the event of a key at a step (down or up) in a list of events
 --     was_down       whether a key was down before a step's events
---     KnowsKeys      which keys are known to be down when a step begins
---     SaysTheSame    two lists of events say the same
---     HoldsKeys      which keys are known to be down in a step, and up to the next event
+--     KnowsKeys      which keys are known to be down at the start of a step
+--     SaysTheSame    the two lists of events contain the same events
+--     HoldsKeys      which keys are known to be down in a step, and until the next event
 use Rattle.std.specs.Prelude.{◌≡◌, ℕ, ◌+◌, ◌*◌, ◌<◌, ◌≤◌, ◌==◌, ◌&&◌, zero, suc, Bool, false, List, [], ◌∷◌, length, take, Option, None, Some, slice_index_or, slice_set, min, if◌then◌else◌}
 use Rattle.std.specs.List.{flat_map}
 use Rattle.std.specs.Global.{Vec}
@@ -28,20 +28,20 @@ use Rattle.chip_replay.specs.declared.keys.Holding.{Holding}
 abbrev pub rank : Event → ℕ
 rank e = e.step * 16 + e.key
 
--- the events are sorted by their steps, and within a step by their keys
+-- the events are sorted by step and then by key
 pub record IsInOrder (events : List Event) : Type 0 where
   pub rising : (i j : ℕ) (d : Event) → i < j → j < length events
       → rank (slice_index_or events i d) < rank (slice_index_or events j d)
   pub keys : (i : ℕ) (d : Event) → i < length events → (slice_index_or events i d).key < 16
 
--- the events below the place are those before the step
+-- the events before the index are those before the step
 pub record IsFirstFrom (events : List Event) (step place : ℕ) : Type 0 where
   pub at_most : place ≤ length events
   pub before : (i : ℕ) (d : Event) → i < place → (slice_index_or events i d).step < step
   pub after : (i : ℕ) (d : Event) → place ≤ i → i < length events
       → step ≤ (slice_index_or events i d).step
 
--- the events of all pages, one page after another
+-- the events of all pages, one page after the other
 abbrev pub all_events : List (Vec Event) → List Event
 all_events pages = flat_map (λ page. page.items) pages
 
@@ -70,7 +70,7 @@ after_events down es zero = down
 after_events down [] (suc n) = down
 after_events down (e ∷ es) (suc n) = after_events (slice_set down e.key e.down) es n
 
--- the first event of the key at the step (down or up), if there is one
+-- the first event of the key at the step (down or up), if one exists
 abbrev pub change_at : List Event → ℕ → ℕ → Option Bool
 change_at [] step key = None
 change_at (e ∷ es) step key =
@@ -80,8 +80,8 @@ abbrev pub was_down : Events → ℕ → ℕ → Bool
 was_down events key zero = false
 was_down events key (suc step) = is_down events key step
 
--- the keys that were down before the events of each step from `step` up to `until`, or of `until`
--- alone if that isn't later; and the mask of these keys
+-- the keys that were down before the events of each step from `step` up to `until`, or only of `until`
+-- if that isn't later; and the mask of these keys
 pub record KnowsKeys (events : Events) (step : ℕ) (h : Holding) : Type 0 where
   pub size : length h.down ≡ 16
   pub as_mask : h.keys ≡ mask (λ k. slice_index_or h.down k false) 16
@@ -95,6 +95,6 @@ pub record HoldsKeys (events : Events) (step : ℕ) (h : Holding) : Type 0 where
   pub stays : (s k : ℕ) → step ≤ s → s < h.until → k < 16
       → is_down events k s ≡ slice_index_or h.down k false
 
--- the events by key and the events in order agree for each key at each step
+-- the events by key and the events by step agree for each key at each step
 abbrev pub SaysTheSame : Events → List Event → Type 0
 SaysTheSame events in_order = (s k : ℕ) → k < 16 → change_at in_order s k ≡ event_at events s k

@@ -1,11 +1,11 @@
--- Proofs, which a reader may skip: the law about the keys that a machine asks for.
+-- Proofs, which a reader may skip: the law about the keys that a machine queries.
 -- Source: chosen by this project.
 use Rattle.std.proofs.Common.{ℕ, ◌≤◌, arith}
 use Rattle.chip_replay.specs.inner.Changes.{KnowsKeys}
 use Rattle.chip_replay.specs.Keys.{Events}
 use Rattle.chip_replay.specs.declared.keys.Holding.{Holding}
 
--- the keys known when a step begins are known when a later step begins
+-- the keys known at the start of a step are known at the start of a later step
 pub knows_later : (events : Events) (s t : ℕ) (h : Holding) → KnowsKeys events s h → s ≤ t
     → KnowsKeys events t h
 knows_later events s t h knows l =

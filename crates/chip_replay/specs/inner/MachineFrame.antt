@@ -1,7 +1,7 @@
--- The machine's frame law in the form of the trait.
+-- The machine's frame law in the form that the trait requires.
 -- Source: chosen by this project.
 --     machine_framed          the frame law
---     machine_step_keeps      a step keeps a state proper
+--     machine_step_keeps      a step preserves that a state is proper
 use Rattle.std.specs.Prelude.{◌≡◌, ℕ, Bool, All, IsFalse}
 use Rattle.std.proofs.Common.{ap}
 use Rattle.chip_machine.specs.State.{Core, State, IsProper, memory_of, with_memory}

@@ -1,5 +1,4 @@
--- The models of this crate as numbers, which the types with these models require (chosen by this
--- project).
+-- The models of this crate as numbers, which `coded` requires (chosen by this project).
 use Rattle.std.specs.Prelude.{ℕ, List}
 use Rattle.std.specs.Coded.{Coded, code_by, coded×, coded_ℕ, coded_list}
 use Rattle.std.proofs.Common.{refl}
@@ -18,7 +17,7 @@ settings_code =
     (λ p. record { rate = p.0; tape = p.1.0; quirks = p.1.1.0; spacing = p.1.1.1 })
     (λ _. refl)
 
--- the parts of a kept run, side by side
+-- the parts of a kept run, as nested pairs
 abbrev pub RunParts : Type 0
 RunParts = SessionSettings × (Events × (List ℕ × (ℕ × ℕ)))
 
@@ -36,7 +35,7 @@ kept_run_code =
     })
     (λ _. refl)
 
--- the parts of a bench, side by side
+-- the parts of a bench, as nested pairs
 abbrev pub Parts : Type 0
 Parts = List (List ℕ) × (Events × (SessionSettings × (ℕ × (ℕ × (List ℕ × (ℕ × ℕ))))))
 

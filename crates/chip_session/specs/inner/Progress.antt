@@ -16,20 +16,20 @@ use Rattle.chip_session.specs.declared.server.Stop.{Stop}
 use Rattle.chip_session.specs.declared.server.Stop.TheVariants.{WriterFailed, OutOfMemory, TooMuchInput}
 use Rattle.chip_lang.specs.Meter.{one_more}
 
--- the error of `serve` after the rest of a script is given up
+-- the error that `serve` returns after the rest of a script was abandoned
 abbrev pub fault_of : Stop → ServeError
 fault_of WriterFailed = fault.WriterFailed
 fault_of OutOfMemory = fault.OutOfMemory
 fault_of TooMuchInput = fault.TooMuchInput
 
--- the number of the writer's failures that are counted after this result
+-- the failure count of the writer after this result
 abbrev pub failures_after : Result Unit Stop → ℕ → ℕ
 failures_after (Ok _) failures = failures
 failures_after (Err WriterFailed) failures = one_more failures
 failures_after (Err OutOfMemory) failures = failures
 failures_after (Err TooMuchInput) failures = failures
 
--- A text was written completely, up to the writer's failure, or not at all.
+-- The text was written completely, or up to the writer's failure, or not at all.
 abbrev pub Says : Result Unit Stop → Option (List ℕ) → Option (List ℕ) → List ℕ → Type 0
 Says (Ok _) held holds text = Appends held holds text
 Says (Err WriterFailed) held holds text =
@@ -37,7 +37,7 @@ Says (Err WriterFailed) held holds text =
 Says (Err OutOfMemory) held holds text = Keeps held holds
 Says (Err TooMuchInput) held holds text = ⊥
 
--- The state after the bytes `given` of a script that began at `start`, if the writer held `before`.
+-- The state after the bytes `given` of a script that began at `start`, if the writer contained `before`.
 pub record Reached (start : Session) (before given : List ℕ) (c : Conversation)
     (holds : Option (List ℕ)) : Type 0 where
   pub session : c.bench.session ≡ session_after start (complete_lines given)
@@ -47,7 +47,7 @@ pub record Reached (start : Session) (before given : List ℕ) (c : Conversation
   pub within : WithinBounds given
   pub told : holds ≡ Some (before ++ transcript_of start (complete_lines given))
 
--- The script was given up after the bytes `done`, with `more` at hand.
+-- The script was abandoned after the bytes `done`; the bytes `more` were already read.
 abbrev pub StoppedAt : Stop → Session → List ℕ → List ℕ → List ℕ → Option (List ℕ) → Type 0
 StoppedAt WriterFailed start before done more holds =
     (front : List ℕ) × BeginsWith (transcript_of start (complete_lines done)) front
@@ -71,14 +71,14 @@ abbrev pub Went : Result Unit Stop → Session → List ℕ → List ℕ → Con
 Went (Ok _) start before given c holds = Reached start before given c holds
 Went (Err e) start before given c holds = Stopped e start before given holds
 
--- The given bytes continue a conversation, whatever state it had reached.
+-- The given bytes continue a conversation from any state that it had reached.
 abbrev pub Carries : Conversation → Option (List ℕ) → List ℕ → Result Unit Stop → Conversation
     → Option (List ℕ) → Type 0
 Carries old held bytes result new holds =
     (start : Session) (before given : List ℕ) → Reached start before given old held
     → Went result start before (given ++ bytes) new holds
 
--- The reader has ended after `given`.
+-- The reader ended after the bytes `given`.
 abbrev pub Ended : Result Unit Stop → Session → List ℕ → List ℕ → Option (List ℕ) → Type 0
 Ended (Ok _) start before given holds =
     holds ≡ Some (before ++ transcript_of start (lines_of given))

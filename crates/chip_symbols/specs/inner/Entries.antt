@@ -18,8 +18,8 @@ symbols_in keys entries = map (λ e. (key_at keys e.id.number, e.symbol)) entrie
 pub record AreApart (keys : List Name) : Type 0 where
   pub each : (i j : ℕ) → i < length keys → j < length keys → key_at keys i ≡ key_at keys j → i ≡ j
 
--- the value at the number of each name is the value that the entries give it, and each entry is the
--- first of its name
+-- the value at the number of each name is the value that the entries assign to the name, and each
+-- entry is the first one of its name
 pub record AreDefined (keys : List Name) (entries : List Entry) (values : List (Option ℤ)) : Type 0 where
   pub inside : All (λ e. e.id.number < length keys) entries
   pub once : (place : ℕ) (e : Name × Symbol) → place < length entries
@@ -40,12 +40,12 @@ valued_in (key ∷ keys) (Some value ∷ values) = (key, value) ∷ valued_in ke
 abbrev pub IsFront : List Entry → List Entry → Type 0
 IsFront front whole = front ≡ take (length front) whole
 
--- the last entry, if there is one, is of a line up to a number
+-- the last entry, if there is one, belongs to a line up to a number
 abbrev pub EndsBy : ℕ → List Entry → Type 0
 EndsBy number entries =
     IfSome (slice_get entries (length entries - 1)) (λ e. e.symbol.line ≤ number)
 
--- the first entry of the whole list after that front, if there is one, is of a line past a number
+-- the first entry of the whole list after that front, if there is one, belongs to a line past a number
 abbrev pub IsPastNext : ℕ → List Entry → List Entry → Type 0
 IsPastNext number front whole =
     IfSome (slice_get whole (length front)) (λ e. number < e.symbol.line)
@@ -57,12 +57,12 @@ pub record ValueLists : Type 0 where
   -- there is room for one more name
   pub has_room : Bool
 
--- true if a number has the same value, or none, in both lists
+-- true if both lists have the same value, or no value, at a number
 abbrev pub is_same_at : (past now : List (Option ℤ)) → ℕ → Bool
 is_same_at past now number =
     option_eq int_eq (slice_index_or past number None) (slice_index_or now number None)
 
--- for each number, the list says whether its two values differ
+-- for each number, the list states whether its two values differ
 pub record AreNoted (now past : List (Option ℤ)) (differs : List Bool) : Type 0 where
   pub long : length differs ≡ length now
   pub each : (number : ℕ) → number < length now

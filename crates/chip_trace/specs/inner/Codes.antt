@@ -1,4 +1,4 @@
--- The encoding of a trace's progress as data, which proofs use to tell two apart (chosen by this project).
+-- The encoding of a trace's progress as data, so that proofs can distinguish two values (chosen by this project).
 use Rattle.std.specs.Prelude.{ℕ, Bool, List, refl}
 use Rattle.std.specs.Coded.{Coded, code_by, coded×, coded_ℕ, coded_bool, coded_list}
 use Rattle.chip_trace.specs.Lines.{Progress}

@@ -17,18 +17,18 @@ first_columns =
     (Step ∷ Pc ∷ Word ∷ []) ++ register_columns
     ++ (Index ∷ Delay ∷ Sound ∷ Depth ∷ Draws ∷ [])
 
--- the fields of `pc` to `st`, with a space before each and after the last; their length is the same in every line
+-- the fields of `pc` to `st`, with a space before each and after the last; their length never changes
 abbrev pub fixed_fields : State → List ℕ
 fixed_fields s =
     32 ∷ hex_word s.core.pc ++ 32 ∷ hex_word (word_of s)
     ++ spaced hex_byte (map (slice_index s.core.registers) (range_with_len 0 16))
     ++ (32 ∷ hex_word s.core.index ++ spaced hex_byte (s.core.delay ∷ s.core.sound ∷ []) ++ 32 ∷ [])
 
--- the member of a register, after a comma
+-- a register's member, after a comma
 abbrev pub register_member : (number value : ℕ) → List ℕ
 register_member number value =
     codes ",\"v" ++ slice_index lower_digits number ∷ codes "\":" ++ decimal value
 
--- whether a list of columns begins with the first columns
+-- whether a list of columns starts with the first columns
 abbrev pub BeginsAsUsual : List Column → Type 0
 BeginsAsUsual columns = columns ≡ first_columns ++ drop FIRST_COLUMNS columns

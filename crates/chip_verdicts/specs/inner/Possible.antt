@@ -1,8 +1,8 @@
--- Possible values and results, for a state that is one of several.
+-- Possible values and results, for a state that is one of several states.
 --     IsPossible      a test may have this result
---     IsWithin        a number lies within bounds
---     IsSeen          a state is one of those of a view
---     is_as_wanted    whether the condition of a property holds or fails, whichever is wanted
+--     IsWithin        a number is within bounds
+--     IsSeen          a state is one of the states of a view
+--     is_as_wanted    whether the condition of a property has the wanted result, to hold or to fail
 use Rattle.std.specs.Prelude.{◌≡◌, ℕ, ◌≤◌, Bool, true, IfSome, length, not, if◌then◌else◌}
 use Rattle.chip_machine.specs.State.{State}
 use Rattle.chip_explore.specs.Property.{holds_in, value_in}

@@ -1,4 +1,4 @@
--- The number of a line in a fault is at most the greatest number of lines (chosen by this project).
+-- The line number in a fault is at most the maximum number of lines (chosen by this project).
 use Rattle.std.specs.Prelude.{◌≤◌}
 use Rattle.chip_asm.specs.declared.limits.TheConstants.{MOST_LINES}
 use Rattle.chip_asm.specs.declared.refusal.OpenError.{OpenError}

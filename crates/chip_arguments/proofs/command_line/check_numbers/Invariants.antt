@@ -3,7 +3,7 @@ use Rattle.chip_arguments.specs.inner.Built.{rows_in}
 use Rattle.chip_arguments.specs.CommandArguments.{first_value_fault, number_fault}
 use Rattle.chip_arguments.proofs.command_line.check_numbers.Given as goal
 
--- the arguments that are left have the first fault of all
+-- the first fault of the remaining arguments is the first fault of all arguments
 abbrev pub invariant-loop-id : goal.invariant-loop-id
 invariant-loop-id l =
     let rows = rows_in l.found in

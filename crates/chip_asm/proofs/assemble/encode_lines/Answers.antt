@@ -11,7 +11,7 @@ use Rattle.chip_asm.proofs.PassSteps.{noted-set, Reached, again-accepted, again-
 use Rattle.chip_asm.proofs.assemble.encode_lines.Goals as goal
 use Rattle.chip_asm.proofs.assemble.encode_lines.Goals.{After-index-lines-place, then-is_again, else-is_again}
 
--- the line at the place that the loop has reached
+-- the line at the loop's place
 here : (c : After-index-lines-place) → Reached c.args.lines.now c.loop-place.placements c.loop-place.place c.index-lines-place.result
 here c = reached c.args.lines.now c.loop-place.placements c.loop-place.place c.index-lines-place.result (c.loop-place.invariant.laid ∙ c.requires.laid) (omega (arith, c.loop-place-test.true, c.requires.within)) c.index-lines-place.is
 

@@ -5,7 +5,7 @@ use Rattle.chip_lang.specs.declared.limits.TheConstants.{IMAGE_START}
 use Rattle.chip_asm.specs.inner.Codes.{copied_bytes}
 use Rattle.chip_asm.proofs.codes.copy_code.Goals as goal
 
--- two bytes that are put there one by one
+-- two bytes that are written one by one
 pub returns-then-size-eq2 : goal.returns-then-size-eq2
 returns-then-size-eq2 c =
     let q = c.args.now.now in

@@ -5,7 +5,7 @@ use Rattle.chip_trace.specs.Lines.{remaining}
 use Rattle.chip_bench.proofs.TraceLemmas.{Streamed}
 use Rattle.chip_bench.proofs.tracing.stream.Given as goal
 
--- what was written, the text and the lines that remain make the whole trace
+-- the written bytes, the text and the remaining lines make up the whole trace
 abbrev pub invariant-loop-is_more : goal.invariant-loop-is_more
 invariant-loop-is_more g l = record {
   session : l.bench.session ≡ l.fn.bench.session;

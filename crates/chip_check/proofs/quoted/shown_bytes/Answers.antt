@@ -5,13 +5,13 @@ use Rattle.std.specs.Str.Lossy.{utf8_valid_len}
 use Rattle.chip_check.specs.Quoted.{shown_after, shown_byte, shown_bytes}
 use Rattle.chip_check.proofs.quoted.shown_bytes.Goals as goal
 
--- so many bytes of text, and what follows them
+-- a number of text bytes, and the bytes after them
 text_shown : (text : ℕ) (bytes : List ℕ) → shown_after text bytes ≡ map (shown_byte true) (take text bytes) ++ shown_after 0 (drop text bytes)
 text_shown zero bytes = refl
 text_shown (suc text) [] = refl
 text_shown (suc text) (b ∷ bytes) = ap (λ shown. shown_byte true b ∷ shown) (text_shown text bytes)
 
--- the first run of a line, and what follows it
+-- the first run of a line, and the bytes after it
 run_from : (text run b : ℕ) (bytes : List ℕ) → run ≡ max text 1 →
     shown_byte (nat_lt 0 text) b ∷ shown_after (text - 1) bytes
     ≡ map (shown_byte (nat_lt 0 text)) (take run (b ∷ bytes)) ++ shown_after 0 (drop run (b ∷ bytes))

@@ -1,7 +1,7 @@
 use Rattle.std.proofs.Common.{◌≡◌, ℕ, List, ◌++◌, take, Option, None, Some, IfSome, option_map}
 use Rattle.chip_files.proofs.reading.read_most.Goals as goal
 
--- the new bytes are the old ones and, if the contents of the reader are known, at most `most` of those
+-- the new bytes are the old bytes and then, if the contents of the reader are known, the first `most` bytes of them
 taken : (known : Option (List ℕ)) (most : ℕ) (old new : List ℕ) →
     IfSome (option_map (λ all. take most all) known) (λ some. new ≡ old ++ some) → IfSome known (λ all. new ≡ old ++ take most all)
 taken None most old new h = tt

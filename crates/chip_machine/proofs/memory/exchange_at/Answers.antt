@@ -6,7 +6,7 @@ use Rattle.chip_machine.specs.State.{exchanged}
 use Rattle.chip_machine.specs.inner.Exchanged.{chosen, chosen-same, is_exchanged, length-exchanged, get_or-exchanged_at}
 use Rattle.chip_machine.proofs.memory.exchange_at.Goals as goal
 
--- a part of the memory is exchanged
+-- bytes in a part of the memory are exchanged
 module _ (m part : List ℕ) (from k : ℕ) (old new : List ℕ) (size : k ≡ length new) (alike : length old ≡ length new) (fits : from + length new ≤ length m) (is : part ≡ exchanged (take k (drop from m)) 0 old new) where
   length-mid : length (take k (drop from m)) ≡ k
   length-mid = grind (arith, places)

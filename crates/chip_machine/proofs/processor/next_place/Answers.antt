@@ -3,7 +3,7 @@ use Rattle.std.proofs.Math.Nat.{suc-mul, mul-mod_left}
 use Rattle.std.proofs.lemmas.Nat.{div-add-mod', mod-mul-add}
 use Rattle.chip_machine.proofs.processor.next_place.Goals as goal
 
--- after the greatest remainder, the next number has remainder 0
+-- after the greatest remainder, the next number has the remainder 0
 turned_over : (draws n : ℕ) → draws % n + 1 ≡ n → (draws + 1) % n ≡ 0
 turned_over draws n last =
     let whole : draws + 1 ≡ (draws / n + 1) * n = omega (arith, div-add-mod' draws n, suc-mul (draws / n) n) in

@@ -8,7 +8,7 @@ use Rattle.chip_replay.proofs.Places.{not_alike, get_or-part, differs-part, IsLe
 use Rattle.chip_replay.proofs.kept.least_touch.Goals as goal
 use Rattle.chip_replay.proofs.kept.least_touch.Goals.{then-byte_at, else-byte_at}
 
--- the places that both images have determine the result for all places, up to the first place that
+-- the indexes that both images have determine the result for all indexes, up to the first index that
 -- only one image has
 module _ (table old new : List ℕ) (reach least from to first end shorter n m : ℕ) (agree : AgreeOutside first end old new) (is_from : from ≡ min first to) (is_to : to ≡ min end shorter) (few : shorter ≤ image_room) (same_n : n ≡ to - from) (same_m : m ≡ to - from) where
   so_far : (size : ℕ) → size ≡ to - from → least ≤ reach

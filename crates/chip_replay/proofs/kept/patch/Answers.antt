@@ -15,8 +15,8 @@ taken_alike old new n i same = elim (cases_lt i n) [
   | inr a ↦ get_or-take_past n old i a ∙ sym (get_or-take_past n new i a)
 ]
 
--- exchanging the changed bytes that both images have exchanges all changed bytes up to the first
--- one that only one image has
+-- exchanging the changed bytes at indexes that both images have exchanges all changed bytes up to the
+-- first index that only one image has
 module _ (m old new : List ℕ) (first end from to shorter n : ℕ) (agree : AgreeOutside first end old new) (is_from : from ≡ min first to) (is_to : to ≡ min end shorter) (size : n ≡ to - from) where
   outside : (i : ℕ) → i < max first shorter → (i < from) ⊎ (to ≤ i) → get_or old i 0 ≡ get_or new i 0
   outside i l (inl a) = agree.before i (omega arith)

@@ -4,7 +4,7 @@ use Rattle.std.specs.List.{list_all}
 use Rattle.std.specs.Str.Parse.{digits_value}
 use Rattle.chip_session.proofs.command.value_of.Given as goal
 
--- the value of the digits so far, and that they are digits
+-- the bytes so far are digits, and `value` is their value
 abbrev pub invariant-loop-byte : goal.invariant-loop-byte
 invariant-loop-byte l =
     record {

@@ -1,7 +1,7 @@
 use Rattle.std.proofs.Common.{◌≡◌, ◌≤◌, ◌<◌, ◌*◌, ℕ, get_or}
 use Rattle.chip_session.proofs.image_run.changed_blocks.Given as goal
 
--- the blocks so far agree before the first place and from the end on
+-- the blocks compared so far agree before `first` and from `end` on
 abbrev pub invariant-loop-block : goal.invariant-loop-block
 invariant-loop-block l =
     (l.first ≤ l.rest)

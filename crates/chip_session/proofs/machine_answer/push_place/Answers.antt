@@ -4,7 +4,7 @@ use Rattle.chip_trace.specs.Digits.{hex_word}
 use Rattle.chip_trace.proofs.DigitLemmas.{taken_where_ok}
 use Rattle.chip_session.proofs.machine_answer.push_place.Goals as goal
 
--- the part of the line that has the digits of both numbers
+-- the part of the line that contains the digits of pc and I
 text : List ℕ → List ℕ → List ℕ
 text p q = 112 ∷ 99 ∷ 32 ∷ slice_index p 0 ∷ slice_index p 1 ∷ slice_index p 2 ∷ slice_index p 3 ∷ 32 ∷ 105 ∷ 32 ∷ slice_index q 0 ∷ slice_index q 1 ∷ slice_index q 2 ∷ slice_index q 3 ∷ []
 

@@ -4,7 +4,7 @@ use Rattle.chip_session.specs.declared.server.TheConstants.{PIECE_LEN}
 use Rattle.chip_session.proofs.ServeLemmas.{Underway}
 use Rattle.chip_session.proofs.server.converse.Given as goal
 
--- what was written is the transcript of the complete lines that were read
+-- the bytes written are the transcript of the complete lines read so far
 abbrev pub invariant-pieces : goal.invariant-pieces
 invariant-pieces g l = record {
   told : (all before : List ℕ) → g.R.Read.remaining l.fn.reader.inner ≡ Some all → g.W.Write.contents l.fn.writer.inner ≡ Some before →
@@ -15,6 +15,6 @@ invariant-pieces g l = record {
   room : length l.piece ≡ PIECE_LEN;
 }
 
--- how many bytes may still be taken
+-- the number of bytes that may still be taken
 abbrev pub decreases-pieces : goal.decreases-pieces
 decreases-pieces g l = SCRIPT_BYTES - l.conversation.taken

@@ -3,7 +3,7 @@ use Rattle.hex.specs.Hex.{encode_lower, lower_digits}
 use Rattle.chip_session.specs.declared.text.TheConstants.{BLOCK_BYTES}
 use Rattle.chip_session.proofs.text.write_block.Given as goal
 
--- the digits of the first bytes, high ones and low ones
+-- the high and low digits of the first `i` bytes have been computed
 abbrev pub invariant-digits : goal.invariant-digits
 invariant-digits l = (length l.high ≡ BLOCK_BYTES) × (length l.low ≡ BLOCK_BYTES)
     × ((k : ℕ) → k < l.i → slice_index l.high k ≡ slice_index lower_digits (slice_index l.bytes k / 16))

@@ -8,7 +8,7 @@ use Rattle.chip_trace.specs.declared.column.Column.TheVariants.{Register}
 use Rattle.chip_trace.proofs.columns.push_registers.Goals as goal
 use Rattle.chip_trace.proofs.columns.push_registers.Goals.{in-Some+in_ok-push, in_default}
 
--- one register more
+-- one more register
 one_more : (front columns : List Column) (n r : ℕ) → columns ≡ front ++ map (λ x. Register x) (range_with_len 0 n) → r ≡ n →
     columns ++ Register r ∷ [] ≡ front ++ map (λ x. Register x) (range_with_len 0 (n + 1))
 one_more front columns n r is same =

@@ -4,7 +4,7 @@ use Rattle.chip_trace.specs.Machine.{names_in}
 use Rattle.chip_trace.proofs.MachineLemmas.{joined_after, values}
 use Rattle.chip_trace.proofs.machine_line.push_choices.Given as goal
 
--- what was added, and the names that remain, make the whole
+-- the added names and the remaining names together are all names
 abbrev pub invariant-loop-place : goal.invariant-loop-place
 invariant-loop-place l =
     l.text.items ++ joined_after l.is_first (names_in (values (drop l.place l.fn.choices)) l.fn.quirks)

@@ -28,7 +28,7 @@ rewrite-requires-clause-alike c =
     let info = info-here c.args.self.now.names.keys lines c.in-Replace.at c.index.result.now c.requires.kept.infos there c.index.ensures in
     rw was (c.is_alike.ensures c.args.self.now.names.keys c.index.result.now.several c.in-Replace.added.several (reading_in c.index.result.now) (reading_in c.in-Replace.added) (rw c.info.ensures info) (rw c.info-in-Replace.ensures (rewrite-requires-clause-info c)) c.if-is_alike.true)
 
--- the contents that the edit itself leaves
+-- the contents after the edit itself
 made : (c : Joined-edit) → IsKept c.match-edit.self × (texts_kept c.match-edit.self ≡ texts_after (texts_kept c.args.self.now) c.args.edit) × (c.match-edit.meter.encoded ≤ c.args.meter.now.encoded + needed_by c.args.self.now c.args.edit)
 made c =
     elim c.match-edit.branch [

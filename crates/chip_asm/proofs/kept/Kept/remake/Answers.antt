@@ -27,7 +27,7 @@ exchange-requires-clause-placed_many c =
 pub exchange-requires-clause-counted : goal.exchange-requires-clause-counted
 exchange-requires-clause-counted c = c.reserve.ensures.kept.laid_out.counted
 
--- the first lines stay, and are steady
+-- the first lines stay the same and are steady
 stays : (c : After-exchange) → c.steady_lines-first.result ≤ first_changed c.args.edit
 stays c = omega (arith, c.steady_lines-first.ensures.within, c.first_changed-place.ensures)
 
@@ -36,11 +36,11 @@ begun c =
     begun-kept c.args.self.now c.args.edit c.steady_lines-first.result c.requires (stays c)
     (subst (λ (ls : List KeptLine). AreSteady ls c.steady_lines-first.result) c.deref.ensures.value c.steady_lines-first.ensures.steady)
 
--- the edit is made in the lines and in what is kept of them
+-- the edit is made in the lines and in their placements
 new-lines : (c : After-exchange) → c.exchange.new.self.lines.items ≡ lines_after c.args.self.now.lines.items c.args.edit
 new-lines c = c.exchange.ensures.lines ∙ ap (λ ls. lines_after ls c.args.edit) c.in_ok-reserve.ensures.room.lines
 
--- all is ready for both passes
+-- everything is ready for both passes
 ready : (c : After-exchange)
     → IsExchanged (change_of c.args.self.now c.args.edit) (record c.exchange.new.self { settled = c.steady_lines-first.result }) c.steady_lines-first.result c.address_at-here.result
 ready c =

@@ -10,7 +10,7 @@ use Rattle.chip_asm.specs.inner.Placements.{first_status, is_accepted, is_active
 use Rattle.chip_asm.proofs.Resumed.{placement-at, fits_at}
 use Rattle.chip_asm.proofs.pass.Pass.place.Goals as goal
 
--- a status says whether the line is active, and which fault it then has
+-- a status determines whether the line is active, and which fault it then has
 
 first-active : (active : Bool) (fault : Option Fault) → is_active_status (first_status active fault) ≡ active
 first-active false fault = refl

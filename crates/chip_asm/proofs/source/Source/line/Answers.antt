@@ -12,7 +12,7 @@ use Rattle.chip_asm.proofs.source.Source.line.Goals as goal
 use Rattle.chip_asm.proofs.source.Source.line.Goals.{After-index-placement}
 use Rattle.chip_asm.proofs.KeptSteps.{placed-many}
 
--- the line at the place and its placement are there
+-- the line at the place and its placement exist
 
 stands : (c : After-index-placement) → slice_get c.self.inside.kept.lines.items (c.args.number - 1) ≡ Some c.in_ok-kept.kept.now
 stands c =

@@ -14,7 +14,7 @@ use Rattle.chip_facts.specs.declared.transfer.Before.{Before}
 use Rattle.chip_facts.proofs.Changes.{on_next}
 use Rattle.chip_facts.proofs.transfer.Before.execute.Goals as goal
 
--- an instruction of a row of the table has the outcome of that row
+-- an instruction in a row of the table has the outcome of that row
 is_row : (before : Before) (r : Result Outcome AllocError) (instr row : Instr) → instr ≡ row → IfOk r (λ out. Gives before out (effect row)) → IfOk r (λ out. Gives before out (effect instr))
 is_row before r instr row is h = subst (λ i. IfOk r (λ out. Gives before out (effect i))) (sym is) h
 

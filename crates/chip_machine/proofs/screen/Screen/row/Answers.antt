@@ -6,7 +6,7 @@ use Rattle.chip_machine.proofs.BitLemmas.{dark_row}
 use Rattle.chip_machine.proofs.PointLemmas.{is_lit-points_where, dark_outside}
 use Rattle.chip_machine.proofs.screen.Screen.row.Goals as goal
 
--- the row zero has no lit column
+-- a row that is zero has no lit column
 dark_zero : (column : ℕ) → lights 0 column ≡ false
 dark_zero column = ap (λ bit. bit == 1) (bit_at-zero (127 - column))
 

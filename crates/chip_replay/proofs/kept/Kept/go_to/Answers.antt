@@ -45,7 +45,7 @@ loop-at-preserved g c =
       steps = omega (arith, c.go_on.ensures.made, before.steps, before.from);
     }
 
--- the current state stays as it is up to the step
+-- the current state doesn't change up to the step
 pub returns-then-stays-clause-right : goal.returns-then-stays-clause-right
 returns-then-stays-clause-right g c =
     let m = g.M.Traced in

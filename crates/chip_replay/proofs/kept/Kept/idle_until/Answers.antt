@@ -8,7 +8,7 @@ use Rattle.chip_replay.specs.inner.Changes.{HoldsKeys}
 use Rattle.chip_replay.specs.declared.keys.Holding.{Holding}
 use Rattle.chip_replay.proofs.kept.Kept.idle_until.Goals as goal
 
--- a state that stays under the keys of a step also stays in each step before the next event
+-- a state that doesn't change under the keys of a step doesn't change in any step before the next event
 still_in_each : {M : Type 0} (after : M → ℕ → Bool → M) (events : Events) (known : Holding) (at n : ℕ) (s : M) → HoldsKeys events at known → at + n ≤ known.until
     → ((tick : Bool) → after s known.keys tick ≡ s) → (t : ℕ) → at ≤ t → t < at + n → (tick : Bool) → after s (held events t) tick ≡ s
 still_in_each after events known at n s holds within still t low high tick =

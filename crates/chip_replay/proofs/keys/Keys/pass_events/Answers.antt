@@ -62,7 +62,7 @@ loop-until-preserved c =
       up_to = rw (next, pass.down) (up_to_passed c.args.self.now es c.self.invariant.2 says c.args.known.now.until place c.loop-until.known.down events passed part.within part.same pass.at_most before.size before.up_to);
     }
 
--- the event at the place is one of those that are passed
+-- the event at the position is one of those that are passed
 pub loop-until-smaller : goal.loop-until-smaller
 loop-until-smaller c =
     let pages = c.self.inside.steps.pages.items in

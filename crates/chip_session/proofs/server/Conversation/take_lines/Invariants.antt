@@ -2,7 +2,7 @@ use Rattle.std.proofs.Common.{◌≡◌, ◌+◌, ◌-◌, ◌≤◌, length, ta
 use Rattle.chip_session.specs.inner.Progress.{Carries}
 use Rattle.chip_session.proofs.server.Conversation.take_lines.Given as goal
 
--- the piece so far has been carried out
+-- the first bytes of the piece have been carried out
 abbrev pub invariant-loop-taken : goal.invariant-loop-taken
 invariant-loop-taken g l = record {
   carries : Carries l.fn.self (g.W.Write.contents l.fn.writer.inner) (take l.taken l.piece) (Ok tt) l.self (g.W.Write.contents l.writer.inner);

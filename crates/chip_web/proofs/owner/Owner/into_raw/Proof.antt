@@ -1,4 +1,4 @@
--- `into_raw` moves two fields. Everything that they own goes with them, because the owner has a session.
+-- `into_raw` moves two fields together with everything that the fields own, because the owner has a session.
 use Rattle.chip_web.proofs.Steps.{[], ◌∷◌, ◌++◌, List, refl, sym, subst, Ura, Val, SProp, ent, id⊢, ftrue, fsep, Fun, tables, tables_of, Memory, Routine, WpFn, Tables, WpFn-mono, Logic, ⋆, Item, ‵, raw, ◌⊛◌, ◌$◌, ◌∵◌, !, qed, by, move, drop, use1, join, split, fsplit, fjoin, suffices, done, whole, sub, agg, stop, fld, no_more, and_then, of_opd, returns, enter, alloc_all, pass_all, free_all, look_at, get, get_in, sets, yes, type_at, nothing, heard, rewrite, fact, ◌≡◌, triple_of, entered, says, Stays, stay_dropped, walk_of, ends_at, Goes-dropped, walk_Meets, D, B, word, box_typed, box_out, box_in}
 use Rattle.std.specs.Prelude.{Option, is_some, true}
 use Rattle.chip_web.specs.contracts.owner.Owner as Owner

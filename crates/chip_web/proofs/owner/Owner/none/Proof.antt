@@ -1,4 +1,4 @@
--- `none` puts null beside the allocator that it is given. An owner of no session owns nothing else.
+-- `none` combines null with the given allocator. An owner without a session owns nothing else.
 use Rattle.chip_web.proofs.Steps.{[], ◌∷◌, ◌++◌, List, refl, sym, subst, Ura, Val, vnull, vstruct, vcons, vnil, SProp, ent, emp, id⊢, ftrue, fsep, Fun, tables, tables_of, Memory, Routine, WpFn, Tables, WpFn-mono, Logic, ⋆, Item, ‵, raw, ◌⊛◌, ◌$◌, ◌∵◌, !, qed, by, move, drop, use1, join, split, fsplit, fjoin, feq_i, fpack, suffices, done, agg, no_more, and_then, lit, returns, enter, alloc_all, pass_all, free_all, look_at, get, sets, yes, null_ptr, nothing, Valss, within, shape, fields, to, triple_of, entered, says, Stays, stay_dropped, walk_of, ends_at, Goes-dropped, walk_Meets, handle_tells, and_tt, lit<}
 use Rattle.std.specs.Prelude.{None}
 use Rattle.std_heap.specs.contracts.Global as Heap

@@ -1,4 +1,4 @@
--- `of_raw` moves two fields, and everything that they own goes with them.
+-- `of_raw` moves two fields together with everything that the fields own.
 use Rattle.chip_web.proofs.Steps.{[], ◌∷◌, ◌++◌, List, refl, sym, subst, Ura, Val, SProp, ent, emp, id⊢, ftrue, fsep, Fun, tables, tables_of, Memory, Routine, WpFn, Tables, WpFn-mono, Logic, ⋆, Item, ‵, raw, ◌⊛◌, ◌$◌, ◌∵◌, !, qed, by, move, drop, use1, join, split, fsplit, fjoin, suffices, done, whole, sub, agg, stop, fld, no_more, and_then, of_opd, returns, enter, alloc_all, pass_all, free_all, look_at, get, get_in, sets, no, type_at, nothing, triple_of, entered, says, Stays, stay_dropped, walk_of, ends_at, Goes-blank, walk_Meets, D, B, word, box_typed, box_out, box_in}
 use Rattle.std.specs.Prelude.{Some}
 use Rattle.chip_web.proofs.Types.{boxed, raw_box as Taken}

@@ -1,4 +1,4 @@
--- `put_together` hands std what the raw box owns, and returns the box that std makes.
+-- `put_together` passes everything that the raw box owns to std, and returns the box that std builds.
 use Rattle.chip_web.proofs.Steps.{[], ◌∷◌, ◌++◌, ◌≡◌, List, refl, sym, subst, ap, T, Ura, Fn, Body, place, copy, assign, rv_opd, seq, return, inst_fn, Val, vptr, has_ty, WT, SProp, ent, id⊢, ftrue, fsep, flft, ◌⊑◌, Fun, fact, tables, tables_of, Memory, Routine, WpFn, Tables, fm_of, WpFn-mono, Logic, ⋆, Item, at_ret, ‵, raw, ◌⊛◌, some, later, ◌$◌, ◌∵◌, !, qed, by, move, drop, use1, join, split, split3, pick, rewrite, fsplit, fjoin, feq_i, suffices, await, done, whole, sub, stop, fld, no_more, and_then, of_opd, returns, enter, first, blocks, exec, alloc_all, pass_all, free_all, look_at, get, get_in, sets, lands_last, env, RattleType, no, block_ptr, plain, heard, nothing, only, calls_at_last, Ended, Clauses, triple_of, Triple, Contract, entered, says, Stays, stay_dropped, walk_of, ends_at, walk_Meets, token, Goes-blank, box_owns, Bx, D, R, P, B, args, box_ty, word, box_typed, box_out, box_in}
 use Rattle.std_alloc.specs.contracts.boxed.Box.from_raw as Closing
 use Rattle.std_alloc.proofs.boxed.Box.from_raw.Symbol as closing_symbol
@@ -9,7 +9,7 @@ use Rattle.chip_web.specs.contracts.raw_box.RawBox.put_together.Key.{name}
 use Rattle.chip_web.proofs.raw_box.RawBox.put_together.Statement.{statement}
 use Rattle.chip_web.proofs.raw_box.RawBox.put_together.Code as code
 
--- what runs after the block of the call
+-- the statements that run after the block of the call
 abbrev last_part : Body
 last_part = seq (assign (place 0 []) (rv_opd (copy (place 4 [])))) return
 
@@ -62,7 +62,7 @@ module _ (E : Bx) where
         use1 𝓛 (later (some (λ (r : D E). (tokens ⊛ ‵ ((B E).own_val r (answer ∷ []))) ⊛ some (λ (_ : Unit {0} × (Unit {0} × Unit {0})).
         ‵ (fsep ftrue (fsep ftrue ftrue)) ⊛ (raw (fact 𝓤 (r.value ≡ x)) ⊛ raw (fact 𝓤 (r.alloc ≡ a))))))) (id⊢ 𝓤 _) $
         await ! tt $ pick ! (λ r. split ! $ move ! (1 ∷ []) $ pick ! (λ _. split3 ! $ drop ! $ heard ! (r.value ≡ x) (λ same. drop ! $ split ! $ move ! (1 ∷ []) $
-        -- the box that came back is a pair of words
+        -- the returned box is a pair of words
         box_out E ! r (answer ∷ []) (λ block' offset' heap' at' is' fits'. box_in E ! r block' offset' r.value at' refl $
         rewrite ! 0 (λ (words : List Val). ‵ ((B E).own_val r words)) (sym is') refl $
         let typed : T (has_ty (box_ty E) answer) × WT answer = subst (λ (s : Val). T (has_ty (box_ty E) s) × WT s) (sym (ap only is')) (box_typed E heap' block' offset' fits') in

@@ -1,4 +1,4 @@
--- `take_apart` hands the box to std. The pointer and the allocator that come back own what the box owned.
+-- `take_apart` passes the box to std. The returned pointer and allocator own what the box owned.
 use Rattle.chip_web.proofs.Steps.{[], ◌∷◌, ◌++◌, ◌≡◌, ◌∙◌, List, refl, sym, subst, ap, Ura, Fn, Args, Dict, a_type, dcons, dnil, inst_fn, untyped, Val, vstruct, of_list, SProp, ent, id⊢, never, fst∗, ftrue, fsep, flft, ◌⊑◌, Fun, fact, tables, tables_of, Memory, Routine, WpFn, Tables, fm_of, WpFn-mono, Logic, sem, ⋆, Item, ‵, raw, ◌⊛◌, some, later, ◌$◌, ◌∵◌, !, qed, by, move, drop, use1, join, split, split3, pick, rewrite, fsplit, fjoin, fpick, feq_l, suffices, await, done, whole, sub, agg, stop, fld, no_more, and_then, of_opd, returns, enter, alloc_all, pass_all, free_all, look_at, get, get_in, sets, lands_as, RattleType, no, bounded, Ptr, RawPtr, block_ptr, null_ptr, ptr_val, in_a_block, plain, heard, nothing, only, Tuple, calls_at, Ended, Clauses, triple_of, Triple, Contract, entered, says, Stays, stay_dropped, walk_of, ends_at, walk_Meets, token, handle_tells, Goes-blank, box_owns, Bx, D, τ, R, P, B, word, box_typed, box_out, box_in}
 use Rattle.std_alloc.specs.contracts.boxed.Box.into_raw_with_allocator as Opening
 use Rattle.std_alloc.proofs.boxed.Box.into_raw_with_allocator.Symbol as opening_symbol
@@ -59,7 +59,7 @@ module _ (E : Bx) (drops : Dict) where
         ‵ (fsep (fsep ftrue (fsep ftrue ftrue)) ftrue) ⊛ (raw (fact 𝓤 (r.1 ≡ a)) ⊛ ‵ (box_owns (token E.al a) (R E) r.0 x)))))) (id⊢ 𝓤 _) $
         await ! tt $ pick ! (λ r. split ! $ move ! (1 ∷ []) $ pick ! (λ _. split3 ! $ drop ! $ heard ! (r.1 ≡ a) (λ same.
         in_a_block ! r.0 (λ p. box_owns (token E.al a) (R E) p x) (fst∗ 𝓤 (never 𝓤) (sem 𝓛 (token E.al a (untyped (τ E)) null_ptr))) (λ block' offset' at'.
-        -- the tuple that came back, field by field
+        -- the returned tuple, field by field
         move ! (1 ∷ []) $ split ! $ move ! (1 ∷ []) $ fpick ! (λ words. fsplit ! $ feq_l ! (λ whole_is. fsplit ! $ feq_l ! (λ pointer_is. fsplit ! $
         rewrite ! 0 (λ (s : E.al.row.Denot). ‵ (E.al.row.own_val s words.1.0)) same refl $ handle_tells E.al ! a words.1.0 (λ heap' heap_is fits'.
         let value : D E = record { ptr = block_ptr block' offset'; alloc = a; value = x } in
