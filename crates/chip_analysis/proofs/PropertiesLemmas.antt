@@ -73,16 +73,14 @@ module _ {W : Type 0} (contents : W → Option (List ℕ)) (old new : Tally W) (
 
   abbrev Unless : Option ℕ → Type 0
   Unless line =
-      MatchOption line (ProvesFrom contents old new arguments lines rate keys start asked faulty ended)
+      MatchOption line (ProvesFrom contents old new arguments lines rate keys start asked properties.faults.items ended)
       (λ line. Fails contents old new (λ why. why ≡ failure.NoProperty line) ended)
 
   pub with_none : (line : ℕ) → unstated_line arguments.only asked faulty ≡ Some line → Fails contents old new (λ why. why ≡ failure.NoProperty line) ended →
       ProvesWith contents old new arguments lines rate keys start properties ended
   with_none line e fails = subst Unless (sym e) fails
 
-  pub with_some : (is_faulty : Bool) → is_faulty ≡ faulty → unstated_line arguments.only asked faulty ≡ None →
-      ProvesFrom contents old new arguments lines rate keys start asked is_faulty ended →
+  pub with_some : unstated_line arguments.only asked faulty ≡ None →
+      ProvesFrom contents old new arguments lines rate keys start asked properties.faults.items ended →
       ProvesWith contents old new arguments lines rate keys start properties ended
-  with_some is_faulty same e did =
-      subst Unless (sym e)
-      (subst (λ (b : Bool). ProvesFrom contents old new arguments lines rate keys start asked b ended) same did)
+  with_some e did = subst Unless (sym e) did

@@ -20,7 +20,9 @@ use Rattle.chip_session.specs.Writing.{Breaks, Writes}
 use Rattle.chip_analysis.specs.Commands.{IsScriptUnwritten, ProvesFrom}
 use Rattle.chip_host.specs.Endings.{Outcome}
 use Rattle.chip_host.specs.Printing.{Printed, Prints, Streams, WritesFront, printed}
-use Rattle.chip_analysis.specs.Proving.{Answered, AreAnswered, IsProofPrinted, IsRight, has_bad, has_short, printed_answer, proof_ending, unstated_line}
+use Rattle.chip_check.specs.Check.{AreTexts}
+use Rattle.chip_properties.specs.declared.fault.PropertyFault.{PropertyFault}
+use Rattle.chip_analysis.specs.Proving.{Answered, AreAnswered, IsCounts, IsProofPrinted, IsReport, IsRight, counts_text, has_bad, has_faults, has_short, printed_answer, proof_ending, unstated_line}
 use Rattle.chip_check.specs.Answer.{is_bad}
 use Rattle.chip_host.specs.declared.ending.Ending.{Ending}
 use Rattle.chip_host.specs.declared.ending.Ending.TheVariants.{Done}
@@ -349,9 +351,23 @@ module _ (arguments : ProveArguments) (lines : List (List ℕ)) (rate keys : ℕ
 
   -- ---- the reports before the answers, and what stands below them
 
-  module _ {W : Type 0} (contents : W → Option (List ℕ)) (asked : List Stated) (is_faulty : Bool) (reports : List ℕ) where
+  module _ {W : Type 0} (contents : W → Option (List ℕ)) (asked : List Stated) (faults : List PropertyFault) (reports : List ℕ)
+      (reported : AreTexts (IsReport arguments lines) faults reports) where
     abbrev pub From : (old new : Tally W) → Outcome → Type 0
-    From old new ended = ProvesFrom contents old new arguments lines rate keys start asked is_faulty ended
+    From old new ended = ProvesFrom contents old new arguments lines rate keys start asked faults ended
+
+    abbrev is_faulty : Bool
+    is_faulty = has_faults arguments.only faults
+
+    abbrev Counted : List Answered → List ℕ → Type 0
+    Counted given counts = IsCounts arguments.is_json arguments.search.source.now (has_short given) counts
+
+    -- last lines, where none or not all are printed
+    abbrev some_counts : List Answered → List ℕ
+    some_counts given = counts_text arguments.is_json arguments.search.source.now None 0 (has_short given) None
+
+    some_counted : (given : List Answered) → Counted given (some_counts given)
+    some_counted given = record { facts = None; states = 0; bound = None; named = tt; is = refl }
 
     abbrev text_of : List Answered → List ℕ → List ℕ
     text_of given others = reports ++ (flat_map (printed_answer arguments lines) given ++ others)
@@ -359,8 +375,8 @@ module _ (arguments : ProveArguments) (lines : List (List ℕ)) (rate keys : ℕ
     abbrev shown : List Answered → List ℕ → Printed
     shown given others = printed (text_of given others) (proof_ending (has_short given) (is_faulty || has_bad given))
 
-    shown_is : (given : List Answered) (others : List ℕ) → IsProofPrinted arguments lines is_faulty given (shown given others)
-    shown_is given others = record { reports = reports; others = others; text = refl; ending = refl }
+    shown_is : (given : List Answered) (counts : List ℕ) → Counted given counts → IsProofPrinted arguments lines faults given (shown given counts)
+    shown_is given counts counted = record { reports = reports; counts = counts; reported = reported; counted = counted; text = refl; ending = refl }
 
     none_answered : AreAnswered rate keys start asked [] asked
     none_answered = record { all = IsPermutation-refl asked; right = All-nil (IsRight rate keys start) }
@@ -369,16 +385,16 @@ module _ (arguments : ProveArguments) (lines : List (List ℕ)) (rate keys : ℕ
     pub from_unfound : (old new : Tally W) (ended : Outcome) (why : Failure) → ended ≡ Err why → new ≡ old →
         IsScriptUnwritten arguments.search.keys_to why → From old new ended
     from_unfound old new ended why e same unwritten =
-        rw e ([], asked, shown [] [], none_answered, tt, shown_is [] [], inr (unwritten, no_front contents old new _ same))
+        rw e ([], asked, shown [] (some_counts []), none_answered, tt, shown_is [] (some_counts []) (some_counted []), inr (unwritten, no_front contents old new _ same))
 
     -- the reports couldn't be printed
     pub from_unreported : (old new : Tally W) (ended : Outcome) (why : Failure) → ended ≡ Err why → Prints contents old new (printed reports Done) (Err why) →
         From old new ended
     from_unreported old new ended why e p =
-        rw e ([], asked, shown [] [], none_answered, tt, shown_is [] [], inl (by why p))
+        rw e ([], asked, shown [] (some_counts []), none_answered, tt, shown_is [] (some_counts []) (some_counted []), inl (by why p))
       where
-        by : (why : Failure) → Prints contents old new (printed reports Done) (Err why) → Streams contents old new (shown [] []) (Err why)
-        by failure.Output p = breaks_more contents old new reports [] p
+        by : (why : Failure) → Prints contents old new (printed reports Done) (Err why) → Streams contents old new (shown [] (some_counts [])) (Err why)
+        by failure.Output p = breaks_more contents old new reports (some_counts []) p
         by failure.OutOfMemory p = no_front contents old new _ p
         by _ p = absurd p
 
@@ -387,18 +403,25 @@ module _ (arguments : ProveArguments) (lines : List (List ℕ)) (rate keys : ℕ
         Writes contents old mid reports → result ≡ Err why → ended ≡ Err why → Comes contents mid new asked was_bad was_short result → From old new ended
     from_stopped old mid new was_bad was_short result ended why first r e rest =
         let up = rw r at (up_to_after contents old mid new reports (flat_map (printed_answer arguments lines) rest.given) first (IsScriptUnwritten arguments.search.keys_to) result rest.written) in
-        rw e (rest.given, rest.left, shown rest.given [], rest.answered, tt, shown_is rest.given [], by why up)
+        rw e (rest.given, rest.left, shown rest.given counts, rest.answered, tt, shown_is rest.given counts (some_counted rest.given), by why up)
       where
-        nothing_more : reports ++ flat_map (printed_answer arguments lines) rest.given ≡ text_of rest.given []
-        nothing_more = ap (λ l. reports ++ l) (sym (append-nil (flat_map (printed_answer arguments lines) rest.given)))
+        counts : List ℕ
+        counts = some_counts rest.given
+
+        answers : List ℕ
+        answers = flat_map (printed_answer arguments lines) rest.given
+
+        front : WritesFront contents old new (reports ++ answers) → WritesFront contents old new (text_of rest.given counts)
+        front w = subst (λ l. WritesFront contents old new l) (append_assoc reports answers counts) (front_more contents old new (reports ++ answers) counts w)
 
         by : (why : Failure) → WritesUpTo contents old new {T = Told} (IsScriptUnwritten arguments.search.keys_to)
-            (reports ++ flat_map (printed_answer arguments lines) rest.given) (Err why) →
-            Streams contents old new (shown rest.given []) (Err why)
-            ⊎ (IsScriptUnwritten arguments.search.keys_to why × WritesFront contents old new (shown rest.given []).text)
-        by why (inr h) = inr (h.0, subst (λ l. WritesFront contents old new l) nothing_more h.1)
-        by failure.Output (inl w) = inl (subst (λ l. Breaks contents old new l) nothing_more w)
-        by failure.OutOfMemory (inl w) = inl (subst (λ l. WritesFront contents old new l) nothing_more w)
+            (reports ++ answers) (Err why) →
+            Streams contents old new (shown rest.given counts) (Err why)
+            ⊎ (IsScriptUnwritten arguments.search.keys_to why × WritesFront contents old new (shown rest.given counts).text)
+        by why (inr h) = inr (h.0, front h.1)
+        by failure.Output (inl w) =
+            inl (subst (λ l. Breaks contents old new l) (append_assoc reports answers counts) (breaks_more contents old new (reports ++ answers) counts w))
+        by failure.OutOfMemory (inl w) = inl (front w)
         by _ (inl w) = absurd w
 
     module _ (old mid late : Tally W) (told : Told) (first : Writes contents old mid reports) (rest : Comes contents mid late asked false false (Ok told)) where
@@ -409,6 +432,12 @@ module _ (arguments : ProveArguments) (lines : List (List ℕ)) (rate keys : ℕ
       both_written : Writes contents old late (reports ++ flat_map (printed_answer arguments lines) rest.given)
       both_written = writes_after contents old mid late reports (flat_map (printed_answer arguments lines) rest.given) first (given_written (IsScriptUnwritten arguments.search.keys_to) told _ rest.written)
 
+      abbrev CountedBy : List ℕ → Type 0
+      CountedBy counts = IsCounts arguments.is_json arguments.search.source.now told.is_short counts
+
+      counted_by : (counts : List ℕ) → CountedBy counts → Counted rest.given counts
+      counted_by counts counted = subst (λ (b : Bool). IsCounts arguments.is_json arguments.search.source.now b counts) rest.short counted
+
       one_text : (others : List ℕ) → (reports ++ flat_map (printed_answer arguments lines) rest.given) ++ others ≡ text_of rest.given others
       one_text others = append_assoc reports (flat_map (printed_answer arguments lines) rest.given) others
 
@@ -418,24 +447,24 @@ module _ (arguments : ProveArguments) (lines : List (List ℕ)) (rate keys : ℕ
           rw e (
             rest.given,
             rest.left,
-            shown rest.given [],
+            shown rest.given (some_counts rest.given),
             rest.answered,
             tt,
-            shown_is rest.given [],
-            inl (subst (λ l. WritesFront contents old late l) (one_text []) (front_more contents old late _ [] (whole_front contents old late _ both_written))),
+            shown_is rest.given (some_counts rest.given) (some_counted rest.given),
+            inl (subst (λ l. WritesFront contents old late l) (one_text (some_counts rest.given)) (front_more contents old late _ (some_counts rest.given) (whole_front contents old late _ both_written))),
           )
 
       -- all was printed, but a script of the folder couldn't be written
-      pub from_unwritten : (new : Tally W) (others : List ℕ) (ended : Outcome) (why : Failure) → ended ≡ Err why → Writes contents late new others →
+      pub from_unwritten : (new : Tally W) (others : List ℕ) → CountedBy others → (ended : Outcome) (why : Failure) → ended ≡ Err why → Writes contents late new others →
           IsScriptUnwritten arguments.search.keys_to why → From old new ended
-      from_unwritten new others ended why e w unwritten =
+      from_unwritten new others counted ended why e w unwritten =
           rw e (
             rest.given,
             rest.left,
             shown rest.given others,
             rest.answered,
             tt,
-            shown_is rest.given others,
+            shown_is rest.given others (counted_by others counted),
             inr (
               unwritten,
               whole_front contents old new _
@@ -444,10 +473,10 @@ module _ (arguments : ProveArguments) (lines : List (List ℕ)) (rate keys : ℕ
           )
 
       -- the last line was printed, or it couldn't be
-      pub from_ended : (new : Tally W) (others : List ℕ) (ending : Ending) (ended : Outcome) → ending ≡ proof_ending told.is_short (is_faulty || told.is_bad) →
+      pub from_ended : (new : Tally W) (others : List ℕ) → CountedBy others → (ending : Ending) (ended : Outcome) → ending ≡ proof_ending told.is_short (is_faulty || told.is_bad) →
           Prints contents late new (printed others ending) ended → From old new ended
-      from_ended new others ending ended is p =
-          (rest.given, rest.left, shown rest.given others, rest.answered, left_none ended, shown_is rest.given others, inl (by ended p))
+      from_ended new others counted ending ended is p =
+          (rest.given, rest.left, shown rest.given others, rest.answered, left_none ended, shown_is rest.given others (counted_by others counted), inl (by ended p))
         where
           left_none : (ended : Outcome) → IfOk ended (λ ending. rest.left ≡ [])
           left_none (Ok e) = rest.whole
@@ -465,11 +494,11 @@ module _ (arguments : ProveArguments) (lines : List (List ℕ)) (rate keys : ℕ
           by (Err _) p = absurd p
 
       -- all was printed, and maybe a script of the folder couldn't be written
-      pub from_all : (new : Tally W) (others : List ℕ) (ending wanted : Ending) (ended : Outcome) → wanted ≡ proof_ending told.is_short (is_faulty || told.is_bad) →
+      pub from_all : (new : Tally W) (others : List ℕ) → CountedBy others → (ending wanted : Ending) (ended : Outcome) → wanted ≡ proof_ending told.is_short (is_faulty || told.is_bad) →
           ending ≡ wanted → Writes contents late new others → IfOk ended (λ e. e ≡ ending) → IfErr ended (IsScriptUnwritten arguments.search.keys_to) →
           From old new ended
-      from_all new others ending wanted (Ok e) is shown w same unwritten = from_ended new others wanted (Ok e) is (same ∙ shown, w)
-      from_all new others ending wanted (Err why) is shown w same unwritten = from_unwritten new others (Err why) why refl w unwritten
+      from_all new others counted ending wanted (Ok e) is shown w same unwritten = from_ended new others counted wanted (Ok e) is (same ∙ shown, w)
+      from_all new others counted ending wanted (Err why) is shown w same unwritten = from_unwritten new others counted (Err why) why refl w unwritten
 
 -- no property is asked for in the line that is named
 pub missing : (only : Option ℕ) (line : ℕ) (is_empty is_faulty : Bool) (asked : List Stated) → Some line ≡ missing_line only is_empty is_faulty →

@@ -15,9 +15,10 @@ use Rattle.chip_host.specs.Printing.{Printed, IfOpens, Streams, WritesFront, Pri
 use Rattle.chip_host.specs.SettingArguments.{settings_asked}
 use Rattle.chip_session.specs.Settings.{SessionSettings}
 use Rattle.chip_session.specs.Tally.{Tally}
-use Rattle.chip_analysis.specs.Exploring.{AreLeft, AsksCauses, AsksKeys, AsksProperty, AsksSet, IsExclusionPrinted, IsSearchPrinted, key_named, target_asked, usual_keys, warning_named}
+use Rattle.chip_analysis.specs.Exploring.{AreLeft, AsksCauses, AsksKeys, AsksProperty, AsksSet, IsBounded, IsExclusionPrinted, IsSearchPrinted, key_named, target_asked, usual_keys, warning_named}
 use Rattle.chip_analysis.specs.Proving.{Answered, AreAnswered, IsProofPrinted, asked_of, has_faults, unstated_line}
 use Rattle.chip_properties.specs.Properties.{AreProperties}
+use Rattle.chip_properties.specs.declared.fault.PropertyFault.{PropertyFault}
 use Rattle.chip_properties.specs.declared.properties.Properties.{Properties}
 use Rattle.chip_properties.specs.declared.stated.Stated.{Stated}
 use Rattle.chip_explore.specs.declared.property.Property.{Property}
@@ -83,6 +84,7 @@ module _ {W : Type 0} (contents : W → Option (List ℕ)) (out_old out_new : Ta
   SearchesFrom arguments lines rate keys target left start ended =
       ((explored : Explored) × Answers rate keys target start explored.outcome
       × AreExecuted rate keys explored.executed start explored.outcome
+      × IsBounded arguments.search explored
       × (explored.is_at_any_speed ≡ true → NeverAtAnySpeed keys target start)
       × PrintsSuch contents out_old out_new (IsSearchPrinted arguments lines target.causes left explored) ended)
       ⊎ Fails contents out_old out_new (IsScriptUnwritten arguments.search.keys_to) ended
@@ -115,12 +117,12 @@ module _ {W : Type 0} (contents : W → Option (List ℕ)) (out_old out_new : Ta
   -- The answers to these properties are printed, each as soon as it is found: all of them if nothing hindered
   -- that, or the first part of the text if a script couldn't be written.
   abbrev pub ProvesFrom : ProveArguments → (lines : List (List ℕ)) → (rate keys : ℕ) → State
-      → (asked : List Stated) → (is_faulty : Bool) → Outcome → Type 0
-  ProvesFrom arguments lines rate keys start asked is_faulty ended =
+      → (asked : List Stated) → List PropertyFault → Outcome → Type 0
+  ProvesFrom arguments lines rate keys start asked faults ended =
       (given : List Answered) × (left : List Stated) × (wanted : Printed)
       × AreAnswered rate keys start asked given left
       × IfOk ended (λ ending. left ≡ [])
-      × IsProofPrinted arguments lines is_faulty given wanted
+      × IsProofPrinted arguments lines faults given wanted
       × (Streams contents out_old out_new wanted ended
       ⊎ (IsErrAnd ended (IsScriptUnwritten arguments.search.keys_to)
       × WritesFront contents out_old out_new wanted.text))
@@ -131,9 +133,9 @@ module _ {W : Type 0} (contents : W → Option (List ℕ)) (out_old out_new : Ta
       → Properties → Outcome → Type 0
   ProvesWith arguments lines rate keys start properties ended =
       let asked = asked_of arguments.only properties.stated.items in
-      let is_faulty = has_faults arguments.only properties.faults.items in
-      MatchOption (unstated_line arguments.only asked is_faulty)
-      (ProvesFrom arguments lines rate keys start asked is_faulty ended)
+      let faults = properties.faults.items in
+      MatchOption (unstated_line arguments.only asked (has_faults arguments.only faults))
+      (ProvesFrom arguments lines rate keys start asked faults ended)
       (λ line. Fails contents out_old out_new (λ why. why ≡ failure.NoProperty line) ended)
 
   -- `prove` with a source: if the source has an image, its properties are answered for its machine; otherwise

@@ -7,13 +7,20 @@
 --     NeverMetFrom       whether a target is never met with any keys, random bytes and speed
 --     Answered, IsRight  a property with an answer, and whether the answer holds
 --     proof_ending       how the program ends after the answers
+--     IsReport           the report on a property that can't be read
+--     counts_text, IsCounts    the last lines, with the numbers of facts and states
 --     IsProofPrinted     what is printed of properties that are answered
-use Rattle.std.specs.Prelude.{◌≡◌, ℕ, ◌==◌, ◌||◌, Bool, true, false, List, [], ◌∷◌, ◌++◌, filter, map, Option, Some, None, unwrap_or, if◌then◌else◌}
+use Rattle.std.specs.Prelude.{◌≡◌, ℕ, ◌==◌, ◌||◌, Any, Bool, true, false, IfSome, List, [], ◌∷◌, ◌++◌, codes, filter, map, Option, Some, None, unwrap_or, if◌then◌else◌}
+use Rattle.std.specs.Fmt.{decimal}
 use Rattle.std.specs.List.{All, flat_map, list_any}
 use Rattle.std.specs.List.Sorted.{IsPermutation}
 use Rattle.chip_arguments.specs.declared.command_line.ProveArguments.{ProveArguments}
 use Rattle.chip_asm.specs.LineViews.{LineFacts, line_at}
 use Rattle.chip_check.specs.Answer.{answer_text, is_bad}
+use Rattle.chip_check.specs.Check.{AreTexts, Print}
+use Rattle.chip_check.specs.Json.{quoted}
+use Rattle.chip_check.specs.PropertyFaults.{IsPropertyFault, printed_as}
+use Rattle.chip_analysis.specs.Exploring.{number_line}
 use Rattle.chip_explore.specs.Answers.{Answers}
 use Rattle.chip_explore.specs.Prospects.{Foresees, outcome_of}
 use Rattle.chip_explore.specs.Speeds.{NeverAtAnySpeed}
@@ -124,11 +131,61 @@ pub record AreAnswered (rate keys : ℕ) (start : State) (asked : List Stated)
   pub all : IsPermutation asked (map (λ one. one.stated) given ++ left)
   pub right : All (IsRight rate keys start) given
 
--- The output for these answers. Before them come reports on what can't be read, and after them how many
--- states the searches kept. No contract describes either of these.
-pub record IsProofPrinted (arguments : ProveArguments) (lines : List (List ℕ)) (is_faulty : Bool)
-    (given : List Answered) (wanted : Printed) : Type 0 where
+-- the text for a property that can't be read; empty unless it is asked for
+abbrev pub IsReportIf : (is_asked : Bool) → Print → Option LineFacts → PropertyFault → (text : List ℕ) → Type 0
+IsReportIf true print (Some line) fault text = IsPropertyFault print line.text fault text
+IsReportIf is_asked print line fault text = text ≡ []
+
+abbrev pub IsReport : ProveArguments → (lines : List (List ℕ)) → PropertyFault → (text : List ℕ) → Type 0
+IsReport arguments lines fault text =
+    IsReportIf (is_asked arguments.only fault.line) (printed_as arguments.is_json arguments.search.source.now)
+    (line_at lines fault.line) fault text
+
+-- the line with the number of rows in the table of facts, if there are facts
+abbrev pub facts_line : Option ℕ → List ℕ
+facts_line None = []
+facts_line (Some rows) = number_line (codes "facts ") rows
+
+-- the same as a member of a JSON object
+abbrev pub facts_member : Option ℕ → List ℕ
+facts_member None = []
+facts_member (Some rows) = codes ",\"facts\":" ++ decimal rows
+
+abbrev pub short_member : (is_short : Bool) → List ℕ
+short_member false = []
+short_member true = codes ",\"out_of_memory\":true"
+
+abbrev pub bound_member : (bound : Option (List ℕ)) → List ℕ
+bound_member None = []
+bound_member (Some bound) = codes ",\"ended_by\":\"" ++ bound ++ codes "\""
+
+-- the last lines: the number of rows in the table of facts, and the most states that a search kept; as JSON also
+-- whether memory ran out, and the bound at which a search ended early
+unfoldable pub counts_text : (is_json : Bool) (name : List ℕ) → (facts : Option ℕ) (states : ℕ)
+    → (is_short : Bool) (bound : Option (List ℕ)) → List ℕ
+counts_text false name facts states is_short bound =
+    facts_line facts ++ number_line (codes "states ") states
+counts_text true name facts states is_short bound =
+    codes "{\"states\":" ++ decimal states ++ facts_member facts ++ short_member is_short
+    ++ bound_member bound ++ codes ",\"file\":" ++ quoted name ++ codes "}\n"
+
+-- a text is such last lines, with some numbers
+pub record IsCounts (is_json : Bool) (name : List ℕ) (is_short : Bool) (text : List ℕ) : Type 0 where
+  pub facts : Option ℕ
+  pub states : ℕ
+  pub bound : Option (List ℕ)
+  pub named : IfSome bound (λ word. Any (λ one. word ≡ one)
+      (codes "seconds" ∷ codes "memory" ∷ codes "states" ∷ []))
+  pub is : text ≡ counts_text is_json name facts states is_short bound
+
+-- The output for these answers: before them the reports on the properties that can't be read, and after them how
+-- many states the searches kept.
+pub record IsProofPrinted (arguments : ProveArguments) (lines : List (List ℕ))
+    (faults : List PropertyFault) (given : List Answered) (wanted : Printed) : Type 0 where
   pub reports : List ℕ
-  pub others : List ℕ
-  pub text : wanted.text ≡ reports ++ (flat_map (printed_answer arguments lines) given ++ others)
-  pub ending : wanted.ending ≡ proof_ending (has_short given) (is_faulty || has_bad given)
+  pub counts : List ℕ
+  pub reported : AreTexts (IsReport arguments lines) faults reports
+  pub counted : IsCounts arguments.is_json arguments.search.source.now (has_short given) counts
+  pub text : wanted.text ≡ reports ++ (flat_map (printed_answer arguments lines) given ++ counts)
+  pub ending : wanted.ending
+      ≡ proof_ending (has_short given) (has_faults arguments.only faults || has_bad given)

@@ -1,10 +1,10 @@
 //! `explore`: searches all key scripts of a source's image.
-ghost use Rattle.std.specs.Prelude.{◌≡◌, ◌<◌, ◌∷◌, [], ◌++◌, ℕ, List, Ok, IfOk, IfErr, OnOk, option_copied};
+ghost use Rattle.std.specs.Prelude.{◌≡◌, ◌<◌, ◌∷◌, [], ◌++◌, ◌-◌, ℕ, List, Ok, IfOk, IfErr, OnOk, option_copied};
 ghost use Rattle.chip_asm.specs.Program.{symbols_of};
 ghost use Rattle.chip_machine.specs.Start.{start_of};
 ghost use Rattle.chip_analysis.specs.Commands.{Explores, IsBadProperty, IsScriptUnwritten, Searches, SearchesFrom};
 ghost use Rattle.chip_analysis.specs.inner.Written.{IsNamedWritten, IsScriptWritten};
-ghost use Rattle.chip_analysis.specs.Exploring.{AsksProperty, StatesOne, address_of, answer_lines, cause_word, covering_text, in_memory, met_line, met_word, number_line, search_ending, target_asked};
+ghost use Rattle.chip_analysis.specs.Exploring.{AsksProperty, StatesOne, address_of, answer_lines, cause_word, covering_text, in_memory, last_asked, met_line, met_word, number_line, search_ending, target_asked};
 
 use crate::excluding::{Searched, excluded_text, fact_steps, facts_within, left_of};
 use crate::noting::tell_target;
@@ -323,7 +323,11 @@ impl<'p, 'a> Search<'p, 'a> {
 }
 
 /// Returns the search bounds that the arguments set.
-pub(crate) fn bounds_of(arguments: &SearchArguments<'_>, ticks: Ticks) -> Bounds {
+pub(crate) fn bounds_of(arguments: &SearchArguments<'_>, ticks: Ticks) -> Bounds
+    ensures steps { result.steps - 1 ≡ last_asked arguments.now.steps }
+    ensures states { result.states ≡ arguments.now.states }
+    ensures deep { result.is_deep ≡ arguments.now.is_deep }
+{
     Bounds {
         steps: match arguments.steps {
             Some(steps) => u64::from(steps) + 1,

@@ -2,6 +2,7 @@
 #![tactic(auto)]
 
 mod checking;
+mod counts;
 mod covering;
 mod excluding;
 mod exploring;

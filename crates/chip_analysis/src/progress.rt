@@ -1,5 +1,8 @@
 //! The messages on standard error during and after a search, and the time limit of a search.
 
+ghost use Rattle.std.specs.Prelude.{◌≡◌};
+ghost use Rattle.chip_analysis.specs.inner.Counts.{word_of};
+
 use crate::note::{Note, write_note};
 use chip_arguments::SearchArguments;
 use chip_explore::{Explored, KeyEvent, Outcome, Watcher};
@@ -80,7 +83,9 @@ impl Bound {
     }
 
     /// The name of the bound, as it appears in JSON.
-    pub(crate) fn word(self) -> &'static [u8] {
+    pub(crate) fn word(self) -> &'static [u8]
+        ensures { result.now ≡ word_of self }
+    {
         match self {
             Bound::Seconds => b"seconds",
             Bound::Memory => b"memory",

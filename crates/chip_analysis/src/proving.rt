@@ -1,5 +1,5 @@
 //! `prove`: answers the properties that a source states, by facts and by searches over all key scripts.
-ghost use Rattle.std.specs.Prelude.{◌≡◌, ◌⊎◌, ◌<◌, ◌&&◌, ◌||◌, [], ℕ, List, Ok, Some, None, true, IfOk, IfErr, IfSome, filter, length, slice_get, false, position, ◌==◌, ◌+◌};
+ghost use Rattle.std.specs.Prelude.{◌≡◌, ◌⊎◌, ◌<◌, ◌&&◌, ◌||◌, ◌++◌, [], ℕ, List, Ok, Some, None, true, IfOk, IfErr, IfSome, OnOk, filter, length, slice_get, false, position, ◌==◌, ◌+◌};
 ghost use Rattle.std.specs.List.{flat_map, list_any, remove};
 ghost use Rattle.chip_explore.specs.Answers.{Answers};
 ghost use Rattle.chip_explore.specs.OneOf.{told_of};
@@ -7,26 +7,29 @@ ghost use Rattle.chip_explore.specs.Speeds.{NeverAtAnySpeed};
 ghost use Rattle.chip_explore.specs.declared.property.Property.{Property};
 ghost use Rattle.chip_properties.specs.Properties.{AreProperties};
 ghost use Rattle.chip_properties.specs.declared.properties.Properties.{Properties};
+ghost use Rattle.chip_properties.specs.declared.fault.PropertyFault.{PropertyFault};
 ghost use Rattle.chip_properties.specs.declared.stated.Stated.{Stated};
 ghost use Rattle.chip_host.specs.Printing.{Fails};
 ghost use Rattle.chip_analysis.specs.Commands.{IsScriptUnwritten, Proves, ProvesBy, ProvesFrom, ProvesWith};
 ghost use Rattle.chip_host.specs.Endings.{IsShort};
 ghost use Rattle.chip_host.specs.Reading.{image_in};
-ghost use Rattle.chip_analysis.specs.Proving.{IsForeseen, has_faults, is_asked, looks_for, proof_ending, text_at};
+ghost use Rattle.chip_analysis.specs.Proving.{IsCounts, IsForeseen, IsReport, has_faults, is_asked, looks_for, proof_ending, text_at};
 ghost use Rattle.chip_check.specs.Answer.{is_bad};
+ghost use Rattle.chip_check.specs.Check.{AreTexts};
 ghost use Rattle.chip_check.specs.declared.answer.Scope.TheVariants.{Anything};
 ghost use Rattle.chip_explore.specs.declared.question.Outcome.TheVariants.{Never};
 ghost use Rattle.chip_analysis.specs.inner.Proofs.{AreFactsFrom, IsAnswering, IsExcluded, IsLeft, IsNext, IsUnmet, is_can, WritesAll, met_property, missing_line, printed_head, searched_scope};
 
 use crate::checking::Checker;
+use crate::counts::Counts;
 use crate::excluding::{bytes_are_small, excludes_property, fact_steps, facts_within};
-use crate::exploring::{bounds_of, machine_of, push_line, script_text};
+use crate::exploring::{bounds_of, machine_of, script_text};
 use crate::noting::{tell_lines, tell_properties};
 use crate::progress::{Bound, News, Progress, Teller};
 use crate::sets::keys_of;
 use chip_arguments::{ProveArguments, SearchArguments};
 use chip_asm::Source;
-use chip_check::{PropertyAnswer, PropertyPlace, Scope, is_bad, push_property_fault, push_quoted};
+use chip_check::{PropertyAnswer, PropertyPlace, Scope, is_bad, push_property_fault};
 use chip_explore::laws::one_of_several;
 use chip_explore::{
     Causes, Explored, Met, Outcome, Property, Pursuit, Question, Target, Ticks, explore, foresee,
@@ -38,7 +41,6 @@ use chip_host::{
 use chip_machine::Machine;
 use chip_properties::{Kind, Properties, PropertyFault, Stated, properties_of, property_text};
 use chip_session::{Counted, Settings};
-use chip_trace::push_decimal;
 use chip_verdicts::never_met_is_never;
 use std::alloc::{AllocError, Global};
 use std::io::{Read, Write};
@@ -365,9 +367,12 @@ impl<'p, 'a, F: FileAccess> Prover<'p, 'a, F> {
         requires fresh { self.now.start.now.core.draws ≡ 0 }
         requires facts { IfSome self.now.facts.now (AreFactsFrom self.now.start.now) }
         requires even { length left.heads.items ≡ length left.properties.items }
-        ensures { (asked : List Stated) → IsLeft asked left → ProvesFrom O.contents output.old
-            output.new self.now.arguments.now self.now.source.now.lines self.now.rate self.now.keys
-            self.now.start.now asked is_faulty result }
+        ensures { (asked : List Stated) → IsLeft asked left → (faults : List PropertyFault)
+            → is_faulty ≡ has_faults self.now.arguments.now.only faults
+            → AreTexts (IsReport self.now.arguments.now self.now.source.now.lines) faults reports.now
+            → ProvesFrom O.contents output.old output.new self.now.arguments.now
+            self.now.source.now.lines self.now.rate self.now.keys self.now.start.now asked faults
+            result }
     {
         self.find_folder()?;
         print(reports, Ending::Done, output)?;
@@ -410,26 +415,33 @@ impl<'p, 'a, F: FileAccess> Prover<'p, 'a, F> {
     }
 
     /// Returns the reports on those properties that can't be read and are asked for.
-    fn reports(&self, faults: &[PropertyFault]) -> Result<Vec<u8>, AllocError> {
-        let arguments = self.arguments;
+    fn reports(&self, faults: &[PropertyFault]) -> Result<Vec<u8>, AllocError>
+        ensures { IfOk result (λ text. AreTexts
+            (IsReport self.now.arguments.now self.now.source.now.lines) faults.now text.items) }
+    {
         let mut text = Vec::new(self.system.alloc);
         for fault in faults {
-            if is_asked(arguments.only, fault.line)
-                && let Some(line) = self.source.line(fault.line)
-            {
-                let name = arguments.search.source.as_bytes();
-                let is_json = arguments.is_json;
-                push_property_fault(
-                    self.system.alloc,
-                    &mut text,
-                    is_json,
-                    name,
-                    line.text(),
-                    fault,
-                )?;
-            }
+            self.push_report(&mut text, fault)?;
         }
         Ok(text)
+    }
+
+    /// Appends the report on a property that can't be read, if it is asked for.
+    fn push_report(&self, text: &mut Vec<u8>, fault: &PropertyFault) -> Result<(), AllocError>
+        ensures { OnOk result ((added : List ℕ)
+            × IsReport self.now.arguments.now self.now.source.now.lines fault.now added
+            × (text.new.items ≡ text.old.items ++ added)) }
+    {
+        let arguments = self.arguments;
+        if !is_asked(arguments.only, fault.line) {
+            return Ok(());
+        }
+        let Some(line) = self.source.line(fault.line) else {
+            return Ok(());
+        };
+        let name = arguments.search.source.as_bytes();
+        let is_json = arguments.is_json;
+        push_property_fault(self.system.alloc, text, is_json, name, line.text(), fault)
     }
 
     /// Answers properties: first those that facts exclude, then the others, search by search. A property that
@@ -701,45 +713,23 @@ impl<'p, 'a, F: FileAccess> Prover<'p, 'a, F> {
 
     /// Returns the text that is printed last: how many facts were found, unless no property was asked for,
     /// and the most states that a search kept.
-    fn end_text(&self, told: &Told, is_empty: bool) -> Result<Vec<u8>, AllocError> {
-        let mut text = Vec::new(self.system.alloc);
+    fn end_text(&self, told: &Told, is_empty: bool) -> Result<Vec<u8>, AllocError>
+        ensures { IfOk result (λ text. IsCounts self.now.arguments.now.is_json
+            self.now.arguments.now.search.source.now told.now.is_short text.items) }
+    {
+        let facts = match self.facts {
+            Some(facts) if !is_empty => Some(facts.rows().len() as u64),
+            _ => None,
+        };
+        let counts = Counts {
+            facts,
+            states: told.states as u64,
+            is_short: told.is_short,
+            bound: told.bound,
+        };
         let arguments = self.arguments;
-        let states = told.states as u64;
-        if !arguments.is_json {
-            if let Some(facts) = self.facts
-                && !is_empty
-            {
-                push_line(&mut text, b"facts ", facts.rows().len() as u64)?;
-            }
-            text.extend_from_slice(b"states ")?;
-            push_decimal(&mut text, states)?;
-            text.extend_from_slice(b"\n")?;
-            return Ok(text);
-        }
-        text.extend_from_slice(b"{\"states\":")?;
-        push_decimal(&mut text, states)?;
-        if let Some(facts) = self.facts
-            && !is_empty
-        {
-            text.extend_from_slice(b",\"facts\":")?;
-            push_decimal(&mut text, facts.rows().len() as u64)?;
-        }
-        if told.is_short {
-            text.extend_from_slice(b",\"out_of_memory\":true")?;
-        }
-        if let Some(bound) = told.bound {
-            text.extend_from_slice(b",\"ended_by\":\"")?;
-            text.extend_from_slice(bound.word())?;
-            text.extend_from_slice(b"\"")?;
-        }
-        text.extend_from_slice(b",\"file\":")?;
-        push_quoted(
-            self.system.alloc,
-            &mut text,
-            arguments.search.source.as_bytes(),
-        )?;
-        text.extend_from_slice(b"}\n")?;
-        Ok(text)
+        let name = arguments.search.source.as_bytes();
+        counts.lines(self.system.alloc, arguments.is_json, name)
     }
 }
 

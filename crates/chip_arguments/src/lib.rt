@@ -4,6 +4,7 @@
 mod arguments;
 mod command_line;
 mod commands;
+pub mod laws;
 mod limits;
 
 pub use command_line::{

@@ -168,12 +168,16 @@ abbrev pub IsWarningText : Print → Option LineFacts → Warning → (text : Li
 IsWarningText print None w text = text ≡ []
 IsWarningText print (Some line) w text = (hints : List Hint) × (text ≡ warning_text print line.text w hints)
 
+-- whether a text consists of a part for each element of a list, in the order of the list
+abbrev pub AreTexts : {X : Type 0} → (IsText : X → List ℕ → Type 0) → List X → (text : List ℕ) → Type 0
+AreTexts IsText [] text = text ≡ []
+AreTexts IsText (one ∷ more) text =
+    (first others : List ℕ) × (text ≡ first ++ others) × IsText one first × AreTexts IsText more others
+
 -- whether a text is the text for some warnings of a source, one after another
 abbrev pub AreWarnings : Print → (lines : List (List ℕ)) → List Warning → (text : List ℕ) → Type 0
-AreWarnings print lines [] text = text ≡ []
-AreWarnings print lines (w ∷ warnings) text =
-    (first others : List ℕ) × (text ≡ first ++ others)
-    × IsWarningText print (line_at lines w.line) w first × AreWarnings print lines warnings others
+AreWarnings print lines warnings text =
+    AreTexts (λ (w : Warning). IsWarningText print (line_at lines w.line) w) warnings text
 
 -- whether a text is the text for a source: that for its faults, in the order of the lines, and then that for these
 -- warnings

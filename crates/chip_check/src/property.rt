@@ -1,6 +1,9 @@
 //! Prints the fault of a property that can't be read.
 
-ghost use Rattle.std.specs.Prelude.{◌≤◌, IfOk, length};
+ghost use Rattle.std.specs.Prelude.{◌≡◌, ◌≤◌, ◌++◌, ◌∷◌, ℕ, IfOk, List, OnOk, length};
+ghost use Rattle.std.specs.Fmt.{decimal};
+ghost use Rattle.chip_properties.specs.Faults.{number_of_property_fault, sentence_of_property_fault};
+ghost use Rattle.chip_check.specs.PropertyFaults.{IsPropertyFault, inside_line, printed_as};
 
 use crate::finding::Finding;
 use crate::hint::push_help;
@@ -23,7 +26,10 @@ pub fn push_property_fault(
     name: &[u8],
     line: &[u8],
     fault: &PropertyFault,
-) -> Result<(), AllocError> {
+) -> Result<(), AllocError>
+    ensures { OnOk result ((added : List ℕ) × IsPropertyFault (printed_as is_json name.now) line.now
+        fault.now added × (text.new.items ≡ text.old.items ++ added)) }
+{
     let form = if is_json {
         Form::Json
     } else {
@@ -37,8 +43,13 @@ pub fn push_property_fault(
 impl Finding {
     /// The finding for a property that can't be read, with its place and help.
     fn of_property(alloc: Global, line: &[u8], fault: &PropertyFault) -> Result<Finding, AllocError>
+        ensures span { IfOk result (λ finding. finding.span ≡ inside_line fault.now.span line.now) }
         ensures rises { IfOk result (λ finding. finding.span.start ≤ finding.span.end) }
         ensures inside { IfOk result (λ finding. finding.span.end ≤ length line.now) }
+        ensures code { IfOk result (λ finding.
+            finding.code.items ≡ 80 ∷ decimal (number_of_property_fault fault.now.code)) }
+        ensures sentence { IfOk result (λ finding.
+            finding.sentence.items ≡ sentence_of_property_fault fault.now.code) }
     {
         let end = fault.span.end.min(line.len());
         let start = fault.span.start.min(end);

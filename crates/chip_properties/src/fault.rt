@@ -1,7 +1,7 @@
 //! The faults of properties.
 
 ghost use Rattle.std.specs.Prelude.{◌≡◌, ◌≤◌};
-ghost use Rattle.chip_properties.specs.Faults.{number_of_property_fault};
+ghost use Rattle.chip_properties.specs.Faults.{number_of_property_fault, sentence_of_property_fault};
 
 use chip_lang::Span;
 use std::alloc::AllocError;
@@ -40,7 +40,10 @@ impl FaultCode {
     }
 
     /// Returns the message of the fault, a sentence without a newline.
-    pub fn sentence(self) -> &'static [u8] {
+    #[tactic(auto, unfolding(crate::specs::Faults::sentence_of_property_fault))]
+    pub fn sentence(self) -> &'static [u8]
+        ensures { result.now ≡ sentence_of_property_fault self }
+    {
         match self {
             FaultCode::NothingStated => {
                 b"a property has always, never, ever or can, a condition or a place"

@@ -1,7 +1,7 @@
 //! A session for a host that isn't written in Rattle: open, answer a line, read the answer, close.
 #![tactic(auto)]
 
-ghost use Rattle.std.specs.Prelude.{◌≡◌, ◌≢◌, ◌⊎◌, ◌≤◌, ◌-◌, None, Some, IfOk, IfErr, IfSome, is_some, true, min, length, take, drop};
+ghost use Rattle.std.specs.Prelude.{◌≡◌, ◌≢◌, ◌⊎◌, ◌≤◌, ◌-◌, None, Some, IfOk, IfErr, IfSome, [], is_some, true, min, length, take, drop};
 ghost use Rattle.chip_session.specs.Session.{session_of};
 ghost use Rattle.chip_web.specs.Answering.{Answers, bytes_read};
 ghost use Rattle.chip_web.specs.Opening.{asked_settings, open_status};
@@ -24,6 +24,7 @@ use status::{DONE, NO_MEMORY, NO_SESSION};
 /// Opens a session on a source and replaces the session of the handle, if there is one. `list`
 /// contains the quirks in which the machine differs from the profile, in the format of `--quirks`, or
 /// is empty. Returns `DONE`, or the number of the fault. After a fault, the handle has no session.
+/// Until the first line is executed, the last answer is empty.
 #[unsafe(no_mangle)]
 pub extern "C" fn session_open(
     alloc: Global,
@@ -38,6 +39,7 @@ pub extern "C" fn session_open(
     ensures opened { result ≡ DONE → is_some handle.new.owner.session ≡ true }
     ensures session { IfSome handle.new.owner.session (λ opened. opened.bench.session
         ≡ session_of (asked_settings asked.now tape.now list.now) source.now) }
+    ensures unanswered { IfSome handle.new.owner.session (λ opened. opened.answer.items ≡ []) }
     ensures refused { result ≢ DONE → handle.new.owner.session ≡ None }
 {
     drop(handle.take(alloc));
@@ -62,6 +64,7 @@ fn boxed(
         (open_status asked.now tape.now list.now source.now ≡ DONE)
         × (opened.value.bench.session
         ≡ session_of (asked_settings asked.now tape.now list.now) source.now)) }
+    ensures unanswered { IfOk result (λ opened. opened.value.answer.items ≡ []) }
     ensures err { IfErr result (λ status. (status ≢ DONE) × ((status ≡ NO_MEMORY)
         ⊎ (status ≡ open_status asked.now tape.now list.now source.now))) }
 {

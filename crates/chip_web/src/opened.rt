@@ -1,5 +1,5 @@
 //! An open session.
-ghost use Rattle.std.specs.Prelude.{◌≡◌, ◌⊎◌, None, Some, Ok, IfOk, IfErr, OnOk, OnErr};
+ghost use Rattle.std.specs.Prelude.{◌≡◌, ◌⊎◌, [], None, Some, Ok, IfOk, IfErr, OnOk, OnErr};
 ghost use Rattle.chip_asm.specs.Lines.{open_fault};
 ghost use Rattle.chip_session.specs.Session.{session_of};
 ghost use Rattle.chip_session.specs.Transcript.{reply, after, IsBeforeOrAfter};
@@ -23,6 +23,7 @@ impl Opened {
     pub fn open(alloc: Global, source: &[u8], settings: Settings) -> Result<Opened, OpenError>
         ensures ok { IfOk result (λ opened. (open_fault source.now ≡ None)
             × (opened.bench.session ≡ session_of settings source.now)) }
+        ensures unanswered { IfOk result (λ opened. opened.answer.items ≡ []) }
         ensures err { IfErr result (λ e. (e ≡ OpenError.OutOfMemory)
             ⊎ (open_fault source.now ≡ Some e)) }
     {

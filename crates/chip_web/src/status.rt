@@ -35,6 +35,20 @@ pub const UNKNOWN_QUIRKS: u32 = 8;
 /// A line of the source is too long. The number of the line, counted from 1, is added to this number.
 pub const LINE_TOO_LONG: u32 = 1000;
 
+/// The numbers that the definitions cite by name.
+pub fn numbers()
+    ensures done { DONE ≡ 0 }
+    ensures no_memory { NO_MEMORY ≡ 1 }
+    ensures no_session { NO_SESSION ≡ 2 }
+    ensures rate { RATE_OUT_OF_RANGE ≡ 3 }
+    ensures tape { TAPE_LENGTH ≡ 4 }
+    ensures spacing { SPACING_OUT_OF_RANGE ≡ 5 }
+    ensures profile { UNKNOWN_PROFILE ≡ 6 }
+    ensures lines { TOO_MANY_LINES ≡ 7 }
+    ensures quirks { UNKNOWN_QUIRKS ≡ 8 }
+    ensures line { LINE_TOO_LONG ≡ 1000 }
+{}
+
 /// Returns the number for a fault of settings.
 pub fn of_settings(error: SetError) -> u32
     ensures status { result ≡ settings_status error }

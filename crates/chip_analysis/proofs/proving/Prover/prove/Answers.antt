@@ -1,5 +1,6 @@
-use Rattle.std.proofs.Common.{◌≡◌, ◌∙◌, ap, inl, refl, subst, Bool, Err, None, Some}
-use Rattle.chip_analysis.specs.Proving.{asked_of, has_faults, unstated_line}
+use Rattle.std.proofs.Common.{◌≡◌, ◌∙◌, ap, inl, refl, subst, sym, Bool, Err, None, Some}
+use Rattle.chip_analysis.specs.Proving.{IsReport, asked_of, has_faults, unstated_line}
+use Rattle.chip_check.specs.Check.{AreTexts}
 use Rattle.chip_analysis.specs.inner.Proofs.{IsLeft}
 use Rattle.chip_host.specs.declared.ending.Failure.TheVariants as failure
 use Rattle.chip_analysis.proofs.PropertiesLemmas.{asked_none, left_none, with_none, with_some}
@@ -36,10 +37,13 @@ returns g c =
     let some : unstated_line p.arguments.now.only asked c.has_faults-is_faulty.result ≡ None =
     not_missing p.arguments.now.only c.is_empty-is_empty.result c.has_faults-is_faulty.result asked c.in_default.ensures
     (left_none asked c.in_ok-left.left c.is_empty-is_empty.result is c.is_empty-is_empty.ensures) in
+    let reported : AreTexts (IsReport p.arguments.now p.source.now.lines) properties.faults.items c.deref-3.result.now =
+    rw (c.deref-2.ensures.value, sym c.deref-3.ensures.value) c.in_ok-reports.ensures in
     inl (
       properties,
       c.in_ok-stated.ensures,
       with_some g.O.Write.contents c.args.output.now c.prove_left.new.output p.arguments.now p.source.now.lines p.rate p.keys
-          p.start.now properties c.prove_left.result c.has_faults-is_faulty.result faulty
-          (subst (λ (b : Bool). unstated_line p.arguments.now.only asked b ≡ None) faulty some) (c.prove_left.ensures asked is),
+          p.start.now properties c.prove_left.result
+          (subst (λ (b : Bool). unstated_line p.arguments.now.only asked b ≡ None) faulty some)
+          (c.prove_left.ensures asked is properties.faults.items faulty reported),
     )
