@@ -5,13 +5,16 @@ How many it may keep is counted with the machine of tests/trace/emulator.py, whi
 and for each step from such a state, or from the start, that leads to the loop, those that every 1,001st step in it meets.
 
 The first 1,000 are tried with the quick cases, and the others with the slow ones.
+
+Also chains of 400 blocks, each of which reads a key: `explore` answers `never` of each within a second of processor time. A search
+that began anew for each block would take several seconds.
 """
 import importlib.util
 import math
 import pathlib
 import random
 
-from runner.programs import limited
+from runner.programs import TookTooLong, limited
 
 EMULATOR = pathlib.Path(__file__).resolve().parent.parent / "trace" / "emulator.py"
 PROGRAMS = 5000
@@ -23,6 +26,18 @@ ALLOWED = ("--keys-allowed", ",".join(map(str, KEYS)))
 MOST_STATES = ("--states", "5000")
 # the steps without keys after which a state is kept, and the one that leads on from it
 BETWEEN = 1001
+
+# A block of a chain is a word that reads a key, and one that it may skip.
+BLOCKS = 400
+CHAIN_SECONDS = 1
+# Of each chain: the second word of the first block, to which the later ones add 0 to 4, the words after the last block, and the
+# number of states that a block has.
+CHAINS = {
+    "a chain that counts": (0x7E01, (0x1200,), 1),
+    "a chain that ends": (0x7E01, (0x1202 + 4 * BLOCKS, 0x1202 + 4 * BLOCKS), 1),
+    # VE is 0 to 5, and VD, which is read as a key, 0 or 1
+    "a chain that compares at its end": (0x6E01, (0x3E03, 0x6D01, 0x1200), 12),
+}
 
 
 def emulator():
@@ -128,6 +143,22 @@ def wrong_group(program, numbers):
     return next((wrong for wrong in wrongs if wrong), "")
 
 
+def wrong_chain(program, name):
+    """What is wrong with the answer for a chain."""
+    second, last, states_of_block = CHAINS[name]
+    words = [word for block in range(BLOCKS) for word in (0xE09E | block % 14 << 8, second + block % 5)]
+    code = b"".join(each.to_bytes(2, "big") for each in (*words, *last))
+    try:
+        ran = limited([program.file, "explore", "--image", "-", "--no-facts"], code, CHAIN_SECONDS)
+    except TookTooLong as error:
+        return str(error)
+    answer = ran.stdout.decode().splitlines()
+    most = states_of_block * BLOCKS + 1
+    if answer[:1] != ["never"] or int(answer[-1].removeprefix("states ")) > most:
+        return f"{answer}, where `never` can be told by {most} states"
+    return ""
+
+
 def groups(program, start, end):
     for first in range(start, end, GROUP):
         numbers = range(first, min(first + GROUP, end))
@@ -136,6 +167,8 @@ def groups(program, start, end):
 
 def checks(program):
     yield from groups(program, 0, QUICK_PROGRAMS)
+    for name in CHAINS:
+        yield name, lambda name=name: wrong_chain(program, name)
 
 
 def slow_checks(program):

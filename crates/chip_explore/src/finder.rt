@@ -132,7 +132,7 @@ impl Finder {
         if runner.is_quiet {
             runner.forgotten
         } else {
-            self.guesses.at(runner.machine.pc())
+            self.guesses.at(setting, &runner.machine)
         }
     }
 

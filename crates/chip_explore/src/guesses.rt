@@ -2,6 +2,9 @@
 //! needs such a part refutes a guess, and the search begins anew.
 
 use crate::backdrop::BytePatch;
+use crate::limits::{STEPS_OF_TRIALS, TRIAL_SHARE};
+use crate::setting::Setting;
+use crate::trial::Trial;
 use crate::window::Window;
 use chip_machine::limits::MEMORY_BYTES;
 use chip_machine::{Forgotten, Machine};
@@ -13,6 +16,9 @@ use std::alloc::{AllocError, Global};
 pub(crate) struct Guesses {
     parts: Vec<Option<Forgotten>>,
     window: Window,
+    trial: Trial,
+    /// The number of steps that trials may still take.
+    steps_left: u32,
     /// Whether a step refuted a guess, or the search has to begin anew with another window.
     pub(crate) is_refuted: bool,
     /// Whether nothing is forgotten of any state.
@@ -27,6 +33,8 @@ impl Guesses {
         Ok(Guesses {
             parts,
             window: Window::new(alloc, start, keys)?,
+            trial: Trial::new(alloc),
+            steps_left: STEPS_OF_TRIALS,
             is_refuted: false,
             gives_up: false,
         })
@@ -40,15 +48,30 @@ impl Guesses {
         guesses
     }
 
-    /// Returns what is forgotten of a state whose next step is at an address, never the bytes there.
-    pub(crate) fn at(&mut self, address: u16) -> Forgotten {
+    /// Returns what is forgotten of the state of a machine whose next step can tell keys apart, never the
+    /// bytes of that step. At an address that has no guess yet, a trial makes one.
+    pub(crate) fn at(&mut self, setting: &Setting<'_>, machine: &Machine) -> Forgotten {
         if self.gives_up {
             return Forgotten::nothing();
         }
+        let address = machine.pc();
+        if matches!(self.parts.get(usize::from(address)), Some(None)) {
+            self.try_from(setting, machine);
+        }
         let bytes = self.window.bytes().without(Forgotten::bytes(address, 2));
-        match self.parts.get_mut(address as usize) {
+        match self.parts.get_mut(usize::from(address)) {
             Some(parts) => bytes.with(*parts.get_or_insert(Forgotten::all())),
             None => Forgotten::nothing(),
+        }
+    }
+
+    /// Makes guesses by a trial from a machine, unless memory runs out.
+    fn try_from(&mut self, setting: &Setting<'_>, machine: &Machine) {
+        let parts = Forgotten::all().with(self.window.bytes());
+        let steps = self.steps_left / TRIAL_SHARE;
+        self.steps_left = self.steps_left.saturating_sub(steps);
+        if let Ok(trusted) = self.trial.run(setting, machine, parts, steps) {
+            self.trial.guess(&mut self.parts, trusted);
         }
     }
 

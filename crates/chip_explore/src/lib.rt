@@ -28,6 +28,7 @@ mod setting;
 mod sources;
 mod sum;
 mod target;
+mod trial;
 mod watcher;
 mod ways;
 mod ways_back;

@@ -21,6 +21,12 @@ pub(crate) const MOST_WAYS: u64 = 4;
 /// The number of steps of the trial run that shows, before a search, which bytes are stored.
 pub(crate) const STEPS_TRIED: u32 = 4_000;
 
+/// The number of steps that all trials together may take, which show what later steps need.
+pub(crate) const STEPS_OF_TRIALS: u32 = 64_000;
+
+/// A trial takes 1/TRIAL_SHARE of the steps that are left.
+pub(crate) const TRIAL_SHARE: u32 = 64;
+
 /// The number of states that all searches together may keep if they restart because of forgotten
 /// bytes. After that, no byte is forgotten.
 pub(crate) const MOST_STATES_FOR_BYTES: usize = 2_000;

@@ -33,9 +33,10 @@ struct Need {
 
 impl Search {
     /// Notes that the step after a trail needed some forgotten parts and bytes. From now on, the parts
-    /// that they come from are known in the last state before it in which they were forgotten; if there
-    /// is no such state, nothing is forgotten any more. After the first such step of a search, an earlier
-    /// one may have led to that already.
+    /// that they come from are known in the last state before it in which they were forgotten, and in the
+    /// states before that one, as long as parts that were forgotten there lead to them. If there is no such
+    /// state, nothing is forgotten any more. After the first such step of a search, an earlier one may have
+    /// led to that already.
     pub(crate) fn refute(&mut self, setting: &Setting<'_>, trail: Trail, needed: Forgotten)
         requires { 0 < setting.now.rate }
         ensures { self.new.members ≡ self.old.members }
@@ -48,30 +49,42 @@ impl Search {
         }
         let mut trail = trail;
         let mut needed = needed;
+        let mut is_lowered = false;
         for _state in 0..=self.finder.origins.len() {
             let Some(place) = trail.origin.parent() else {
                 break;
             };
-            needed = match self.sources(setting, place, trail, needed) {
+            let sources = match self.sources(setting, place, trail, needed) {
                 Ok(sources) => sources,
-                Err(_) => needed,
+                Err(_) => None,
             };
-            let is_less = self.knows_more(place, needed, is_first);
-            if is_less && states > STATES_FOR_A_SEARCH {
-                self.refute_next(setting, place, trail, needed);
-            }
-            if is_less || !is_first {
+            if is_lowered && sources.is_none() {
                 return;
             }
-            if place >= self.members.steps.len() || place >= self.finder.origins.len() {
-                break;
+            needed = sources.unwrap_or(needed);
+            let is_less = self.knows_more(place, needed, is_first && !is_lowered);
+            if is_less && !is_lowered && states > STATES_FOR_A_SEARCH {
+                self.refute_next(setting, place, trail, needed);
             }
-            trail = Trail {
-                origin: self.finder.origins[place],
-                to: self.members.steps[place],
+            if !is_less && (is_lowered || !is_first) {
+                return;
+            }
+            is_lowered |= is_less;
+            let Some(next) = self.trail_to(place) else {
+                break;
             };
+            trail = next;
         }
-        self.finder.guesses.give_up();
+        if is_first && !is_lowered {
+            self.finder.guesses.give_up();
+        }
+    }
+
+    /// Returns the steps by which the state at a place was reached first, if they are known.
+    fn trail_to(&self, place: usize) -> Option<Trail> {
+        let origin = self.finder.origins.get(place).copied()?;
+        let to = self.members.steps.get(place).copied()?;
+        Some(Trail { origin, to })
     }
 
     /// Notes what the steps of a trail from the state at a place, and the steps after it, need next if
@@ -93,6 +106,7 @@ impl Search {
             let Ok(sources) = self.sources(setting, place, trail, next.needed) else {
                 return;
             };
+            let sources = sources.unwrap_or(next.needed);
             if !self.knows_more(place, sources, false) {
                 return;
             }
@@ -125,7 +139,7 @@ impl Search {
         let needed = match leg.end {
             End::Read => runner.read,
             End::Joined if !runner.is_quiet => {
-                let parts = self.finder.guesses.at(runner.machine.pc());
+                let parts = self.finder.guesses.at(setting, &runner.machine);
                 runner.forgotten.without(parts)
             }
             _ => Forgotten::nothing(),
@@ -160,24 +174,24 @@ impl Search {
     }
 
     /// Returns those forgotten parts of the state at a place that determine some parts forgotten at the
-    /// end of a trail from there. Returns the latter themselves if none is found.
+    /// end of a trail from there, if there are any.
     fn sources(
         &mut self,
         setting: &Setting<'_>,
         place: usize,
         trail: Trail,
         needed: Forgotten,
-    ) -> Result<Forgotten, AllocError>
+    ) -> Result<Option<Forgotten>, AllocError>
         requires { 0 < setting.now.rate }
         ensures { self.new.members ≡ self.old.members }
     {
         let from = u64::from(trail.origin.step);
         if trail.to <= from || place >= self.members.forgotten.len() {
-            return Ok(needed);
+            return Ok(Some(needed));
         }
         let forgotten = self.members.forgotten[place];
         if needed.is_nothing() {
-            return Ok(forgotten);
+            return Ok(Some(forgotten));
         }
         let mut sources = Forgotten::nothing();
         for number in 0..PARTS {
@@ -189,11 +203,7 @@ impl Search {
                 }
             }
         }
-        Ok(if sources.is_nothing() {
-            needed
-        } else {
-            sources
-        })
+        Ok((!sources.is_nothing()).then_some(sources))
     }
 
     /// Returns what is forgotten at the end of a trail if `part` is forgotten in the state at a place
