@@ -67,15 +67,15 @@ reached image quirks None executed hold is = subst (λ o. IfSome o (λ executed.
 reached image quirks (Some found) executed hold is =
     subst (λ o. IfSome o (λ executed. (left : List Left) × AreFacts image quirks left executed)) (sym is) (found.left.items, hold.are)
 
-module _ (checking : Checking) (lines : List (List ℕ)) (warnings : List Warning) (asked : Asked) (covered : Option Covered) (facts : Option Facts)
-    (told : IsSome (image_of lines) → kinds_told warnings ≡ warned asked lines) (places : All (StandsIn checking.allowed lines) warnings)
+module _ (checking : Checking) (lines : List (List ℕ)) (asked : Asked) (covered : Option Covered) (facts : Option Facts)
     (allowed : asked.allowed ≡ checking.allowed) (quirks : asked.quirks ≡ checking.settings.quirks) (tape : asked.has_tape ≡ checking.has_tape)
     (same : IsCoverageOf covered asked.coverage) (executed : option_copied asked.reachable ≡ option_map (λ found. found.executed.items) facts) where
-  by_image : (image : Option (List ℕ)) → image_of lines ≡ image → (image ≡ None → warnings ≡ []) → IsCovered checking.is_covering checking.settings image covered →
+  by_image : (warnings : List Warning) → All (StandsIn checking.allowed lines) warnings → (IsSome (image_of lines) → kinds_told warnings ≡ warned asked lines) →
+      (image : Option (List ℕ)) → image_of lines ≡ image → (image ≡ None → warnings ≡ []) → IsCovered checking.is_covering checking.settings image covered →
       IfSome facts (λ facts. MatchOption image ⊥ (λ image. HoldFacts image checking.settings.quirks facts)) →
       MatchOption image (warnings ≡ []) (λ image. IsWarned checking lines image warnings)
-  by_image None is none cover hold = none refl
-  by_image (Some image) is none cover hold = record {
+  by_image warnings places told None is none cover hold = none refl
+  by_image warnings places told (Some image) is none cover hold = record {
     asked = asked;
     allowed = allowed;
     quirks = quirks;
@@ -86,10 +86,15 @@ module _ (checking : Checking) (lines : List (List ℕ)) (warnings : List Warnin
     places = places;
   }
 
-  -- the warnings that a source has for what is asked
-  pub are_warned : (image_of lines ≡ None → warnings ≡ []) → IsCovered checking.is_covering checking.settings (image_of lines) covered →
-      IfSome facts (λ facts. MatchOption (image_of lines) ⊥ (λ image. HoldFacts image checking.settings.quirks facts)) → AreWarned checking lines warnings
-  are_warned = by_image (image_of lines) refl
+  -- the warnings that a call returns are those of the source for what is asked
+  pub are_warned : {V E : Type 0} (items : V → List Warning) (result : Result V E) → IfOk result (λ v. All (StandsIn asked.allowed lines) (items v)) →
+      IfOk result (λ v. image_of lines ≡ None → items v ≡ []) → IfOk result (λ v. IsSome (image_of lines) → kinds_told (items v) ≡ warned asked lines) →
+      IsCovered checking.is_covering checking.settings (image_of lines) covered →
+      IfSome facts (λ facts. MatchOption (image_of lines) ⊥ (λ image. HoldFacts image checking.settings.quirks facts)) →
+      IfOk result (λ v. AreWarned checking lines (items v))
+  are_warned items (Ok v) places faulty told cover hold =
+      by_image (items v) (subst (λ a. All (StandsIn a lines) (items v)) allowed places) told (image_of lines) refl faulty cover hold
+  are_warned items (Err e) places faulty told cover hold = tt
 
 module _ (checking : Checking) (name bytes : List ℕ) where
   -- what is found in a source that opens

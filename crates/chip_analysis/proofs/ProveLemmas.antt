@@ -1,9 +1,14 @@
 -- What the command `prove` did with a source.
-use Rattle.std.proofs.Common.{◌≡◌, ◌⊎◌, inl, inr, ℕ, false, List, [], Option, Some, None, Err, refl, sym, ◌∙◌, ap, subst}
+use Rattle.std.proofs.Common.{◌≡◌, ◌⊎◌, inl, inr, ℕ, Bool, true, false, List, [], Option, Some, None, Err, refl, sym, ◌∙◌, ap, subst}
 use Rattle.std.specs.Prelude.{is_none, option_copied, if◌then◌else◌}
 use Rattle.chip_arguments.specs.declared.command_line.ProveArguments.{ProveArguments}
 use Rattle.chip_asm.specs.Lines.{lines_of, open_fault}
+use Rattle.chip_asm.specs.LineViews.{LineFacts}
 use Rattle.chip_asm.specs.Program.{image_of}
+use Rattle.chip_check.specs.Check.{Print}
+use Rattle.chip_check.specs.PropertyFaults.{IsPropertyFault}
+use Rattle.chip_properties.specs.declared.fault.PropertyFault.{PropertyFault}
+use Rattle.chip_analysis.specs.Proving.{IsReportIf}
 use Rattle.chip_asm.specs.declared.refusal.OpenError.{OpenError}
 use Rattle.chip_asm.specs.declared.refusal.OpenError.TheVariants as unopened
 use Rattle.chip_machine.specs.Start.{start_of}
@@ -22,6 +27,22 @@ use Rattle.chip_host.specs.declared.ending.Ending.TheVariants.{Faulty}
 use Rattle.chip_host.specs.declared.ending.Failure.{Failure}
 use Rattle.chip_host.specs.declared.ending.Failure.TheVariants as failure
 use Rattle.chip_host.proofs.ReadingLemmas.{Unsettles, declines, fails, source_unread, unsettles}
+
+-- the report on a property that can't be read
+module _ (print : Print) (fault : PropertyFault) where
+  pub unasked : (asked : Bool) (line : Option LineFacts) → asked ≡ false → IsReportIf asked print line fault []
+  unasked false line none = refl
+  unasked true line none = cc
+
+  pub unlined : (asked : Bool) (line : Option LineFacts) → None ≡ line → IsReportIf asked print line fault []
+  unlined false line none = refl
+  unlined true line none = subst (λ o. IsReportIf true print o fault []) none refl
+
+  pub reported : (asked : Bool) (line : Option LineFacts) (facts : LineFacts) (text added : List ℕ) → asked ≡ true → Some facts ≡ line → text ≡ facts.text →
+      IsPropertyFault print text fault added → IsReportIf asked print line fault added
+  reported true line facts text added is some same told =
+      subst (λ o. IsReportIf true print o fault added) some (subst (λ t. IsPropertyFault print t fault added) same told)
+  reported false line facts text added is some same told = cc
 
 module _ {W : Type 0} (contents : W → Option (List ℕ)) (out_old out_new : Tally W) (arguments : ProveArguments) (settings : SessionSettings) (keys : ℕ)
     (bytes : List ℕ) (ended : Outcome) where

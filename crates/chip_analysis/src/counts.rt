@@ -1,7 +1,7 @@
 //! The last lines of `prove`: how many facts were found, and how many states the searches kept.
 
-ghost use Rattle.std.specs.Prelude.{◌≡◌, ◌++◌, IfOk, OnOk, option_map};
-ghost use Rattle.chip_analysis.specs.Proving.{IsCounts, bound_member, facts_line, facts_member, short_member};
+ghost use Rattle.std.specs.Prelude.{◌≡◌, ◌++◌, [], IfOk, OnOk, false, option_map, true};
+ghost use Rattle.chip_analysis.specs.Proving.{IsCounts, bound_member, facts_member, short_member};
 ghost use Rattle.chip_analysis.specs.inner.Counts.{counts_of, word_of};
 
 use crate::exploring::push_line;

@@ -263,8 +263,7 @@ impl Source {
             return Err(refusal);
         }
         let added = read_kept(alloc, &mut self.meter, &mut self.kept.names, text)?;
-        self.kept
-            .edit(alloc, &mut self.meter, LineEdit::Insert(number - 1, added))?;
+        self.kept.edit(alloc, &mut self.meter, LineEdit::Insert(number - 1, added))?;
         Ok(())
     }
 
@@ -300,10 +299,7 @@ impl Source {
             return Err(refusal);
         }
         let added = read_kept(alloc, &mut self.meter, &mut self.kept.names, text)?;
-        Ok(
-            self.kept
-                .edit(alloc, &mut self.meter, LineEdit::Replace(number - 1, added))?,
-        )
+        Ok(self.kept.edit(alloc, &mut self.meter, LineEdit::Replace(number - 1, added))?)
     }
 
     /// Removes line `number`, counted from 1. A refused edit changes no line. It changes the work

@@ -4,9 +4,7 @@
 use crate::streams::{Feed, Plan, Sink};
 use anyhow::{Error, bail};
 use chip_asm::Source;
-use chip_bench::{
-    Bench, Command, Counted, Edit, Question, Settings, read_command, serve, tape_of,
-};
+use chip_bench::{Bench, Command, Counted, Edit, Question, Settings, read_command, serve, tape_of};
 use chip_lang::{
     Addr, Body, Bytes, Coded, Instr, Line, Meter, Nibble, Reg, decode, defines, encode, eval,
     read_line, show, tokens, uses, word,
@@ -16,7 +14,7 @@ use chip_replay::{Keys, LEAST_SPACING, Replay};
 use std::alloc::Global;
 
 /// Two instructions that show a point, and a jump to the second.
-const GAME: &[u8] = b"A: LD V0, X + 1\nB: DRW V0, V0, 1\nJP B\nX = 4";
+const GAME: &[u8] = b"A: LD V0, X + 1\nC: DRW V0, V0, 1\nJP C\nX = 4";
 
 /// Returns the results of the calls, crate by crate.
 pub(crate) fn surface(alloc: Global) -> Result<String, Error> {
@@ -34,7 +32,7 @@ fn language(alloc: Global) -> Result<String, Error> {
     let (Some(x), Some(n), Some(at)) = (Reg::new(15), Nibble::new(1), Addr::new(0xfff)) else {
         bail!("a number is out of range");
     };
-    let numbers = (x.number(), n.number(), at.number());
+    let (x, n, at) = (x.number(), n.number(), at.number());
     let clear = word(Instr::ClearScreen);
     let is_clear = matches!(decode(0x00e0), Some(Instr::ClearScreen));
     let shown = show(alloc, 0x00e0)?;
@@ -58,7 +56,7 @@ fn language(alloc: Global) -> Result<String, Error> {
     let used = String::from_utf8_lossy(alloc, uses(&line, 0).unwrap_or(b""))?;
     let (parsed, encoded) = (meter.parsed, meter.encoded);
     Ok(format!(in alloc;
-        "numbers {numbers:?}, word {clear}, decoded {is_clear}, shown {shown}\n{count} tokens, code {code}, value {value:?}, defines {defined}, uses {used}\n{parsed} parsed, {encoded} encoded\n"
+        "numbers {x} {n} {at}, word {clear}, decoded {is_clear}, shown {shown}\n{count} tokens, code {code}, value {value:?}, defines {defined}, uses {used}\n{parsed} parsed, {encoded} encoded\n"
     )?)
 }
 
@@ -72,20 +70,27 @@ fn assembler(alloc: Global) -> Result<String, Error> {
     source.delete(alloc, 1)?;
     let lines = source.lines();
     let image = hex::encode(alloc, source.image().unwrap_or(b""))?;
-    let symbol = source.symbol(b"B").map(|symbol| (symbol.value, symbol.line));
+    let (value, line) = match source.symbol(b"C") {
+        Some(symbol) => (symbol.value, symbol.line),
+        None => (0, 0),
+    };
     let symbols = source.symbols(alloc)?.len();
     let listing = source.listing(alloc)?.len();
-    let work = source.work();
-    let (parsed, encoded) = (work.parsed, work.encoded);
+    let parsed = source.work().parsed;
     Ok(format!(in alloc;
-        "{empty} lines, then {lines}; fault {fault:?} of {faults}; image {image}\nsymbol {symbol:?} of {symbols}; {listing} bytes of listing; {parsed} parsed, {encoded} encoded\n"
+        "{empty} lines, then {lines}; fault {fault:?} of {faults}; image {image}\nC is {value} by line {line}, of {symbols} symbols; {listing} bytes of listing; {parsed} parsed\n"
     )?)
 }
 
 /// Returns a machine before its first step, with the image of the game.
 fn start(alloc: Global) -> Result<Machine, Error> {
     let source = Source::open(alloc, GAME)?;
-    Ok(Machine::start(alloc, source.image().unwrap_or(b""), &[0xa5], Profile::Schip)?)
+    Ok(Machine::start(
+        alloc,
+        source.image().unwrap_or(b""),
+        &[0xa5],
+        Profile::Schip,
+    )?)
 }
 
 fn machine(alloc: Global) -> Result<String, Error> {
@@ -98,15 +103,17 @@ fn machine(alloc: Global) -> Result<String, Error> {
     let Some(x) = Reg::new(0) else {
         bail!("a number is out of range");
     };
-    let state = (machine.reg(x), machine.index(), machine.pc(), machine.depth(), machine.frame(0));
-    let rest = (machine.delay(), machine.sound(), machine.flag(0), machine.draws(), copy.byte_at(0x300));
-    let screen = (machine.lit(5, 5), machine.high(), machine.stopped().map(|stop| stop.number()));
-    let seen = (touch.len(), touch.get(0));
+    let (register, index, pc) = (machine.reg(x), machine.index(), machine.pc());
+    let (depth, frame, flag) = (machine.depth(), machine.frame(0), machine.flag(0));
+    let (delay, sound, draws) = (machine.delay(), machine.sound(), machine.draws());
+    let (lit, high, byte) = (machine.lit(10, 10), machine.high(), copy.byte_at(0x300));
+    let has_stopped = machine.stopped().is_some();
+    let (touched, has_first) = (touch.len(), touch.get(0).is_some());
     let added = touch.add(0x300);
     touch.clear();
     let left = touch.len();
     Ok(format!(in alloc;
-        "state {state:?}, rest {rest:?}, screen {screen:?}\ntouched {seen:?}, added {added}, left {left}\n"
+        "v0 {register}, i {index}, pc {pc}, depth {depth}, frame {frame:?}, flag {flag:?}, dt {delay}, st {sound}, draws {draws}\nlit {lit}, high {high}, stopped {has_stopped}, byte {byte:?}\ntouched {touched}, first {has_first}, added {added}, left {left}\n"
     )?)
 }
 
@@ -115,10 +122,10 @@ fn keys(alloc: Global) -> Result<String, Error> {
     keys.insert(2, 5, true)?;
     keys.insert(9, 5, true)?;
     keys.replace(9, 5, false)?;
-    let held = (keys.held(1), keys.held(2), keys.held(9));
+    let (before, down, up) = (keys.held(1), keys.held(2), keys.held(9));
     keys.delete(2, 5)?;
     let then = keys.held(2);
-    Ok(format!(in alloc; "held {held:?}, then {then}\n")?)
+    Ok(format!(in alloc; "held {before} {down} {up}, then {then}\n")?)
 }
 
 fn replay(alloc: Global) -> Result<String, Error> {
@@ -138,12 +145,21 @@ fn session(alloc: Global) -> Result<String, Error> {
         .with_profile(Profile::Schip)
         .with_spacing(LEAST_SPACING)?;
     let mut bench = Bench::open(alloc, GAME, settings)?;
-    bench.apply(alloc, &Edit::Insert { line: 1, text: b"CLS" })?;
+    bench.apply(
+        alloc,
+        &Edit::Insert {
+            line: 1,
+            text: b"CLS",
+        },
+    )?;
     let mut answer = Vec::new(alloc);
     bench.ask(alloc, &Question::Registers { step: 2 }, &mut answer)?;
     let answer = String::from_utf8_lossy(alloc, &answer)?;
     let (parsed, reach, ran) = (bench.work().parsed, bench.reach(), bench.ran());
-    let is_edit = matches!(read_command(b"del 1"), Ok(Command::Edit(Edit::Delete { line: 1 })));
+    let is_edit = matches!(
+        read_command(b"del 1"),
+        Ok(Command::Edit(Edit::Delete { line: 1 }))
+    );
     let tape_bytes = tape.len();
     Ok(format!(in alloc;
         "{answer}{tape_bytes} bytes of tape, {parsed} parsed, reach {reach}, ran {ran}, edit {is_edit}\n"

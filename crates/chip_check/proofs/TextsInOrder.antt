@@ -17,7 +17,7 @@ module _ {X : Type 0} (IsText : X → List ℕ → Type 0) (all : List X) (old :
   one_part_more place one nothing before after first within is added part so-far left are =
       let these : AreTexts IsText (one ∷ drop (place + 1) all) (first ++ left) = (first, left, refl, part, are) in
       let next : drop place all ≡ one ∷ drop (place + 1) all =
-          drop-cons all place nothing within ∙ ap (λ v. v ∷ drop (suc place) all) (sym is) ∙ ap (λ n. one ∷ drop n all) (sym (add-one place)) in
+      drop-cons all place nothing within ∙ ap (λ v. v ∷ drop (suc place) all) (sym is) ∙ ap (λ n. one ∷ drop n all) (sym (add-one place)) in
       let whole = so-far (first ++ left) (subst (λ ones. AreTexts IsText ones (first ++ left)) (sym next) these) in
       (whole.0, whole.1, ap (λ text. text ++ left) added ∙ append_assoc before first left ∙ whole.2)
 

@@ -114,20 +114,20 @@ impl Trial {
                 passed.is_new = matches!(guesses.get(usize::from(passed.address)), Some(None));
             }
         }
-        let (mut live, mut end) = (Forgotten::nothing(), self.changes.len());
+        let (mut needed, mut end) = (Forgotten::nothing(), self.changes.len());
         for passed in self.passed.iter().rev() {
-            live = self.live_before(passed, end, live);
+            needed = self.needed_before(passed, end, needed);
             end = passed.changes;
             if let Some(guess) = guesses.get_mut(usize::from(passed.address))
                 && passed.is_keyed
             {
-                if live.has_far() && passed.is_past_digits {
-                    live = live.with(Forgotten::index());
+                if needed.has_far() && passed.is_past_digits {
+                    needed = needed.with(Forgotten::index());
                 }
                 let forgotten = guess.unwrap_or(Forgotten::all());
-                live = live.with(Forgotten::all().without(forgotten));
+                needed = needed.with(Forgotten::all().without(forgotten));
                 if passed.is_new {
-                    *guess = Some(Forgotten::all().without(live));
+                    *guess = Some(Forgotten::all().without(needed));
                 }
             }
         }
@@ -135,12 +135,12 @@ impl Trial {
 
     /// Returns the parts that a step and later ones need, given the number of changes up to those of this
     /// step, and the parts that later ones need.
-    fn live_before(&self, passed: &Passed, end: usize, live: Forgotten) -> Forgotten {
-        let mut before = live;
+    fn needed_before(&self, passed: &Passed, end: usize, later: Forgotten) -> Forgotten {
+        let mut before = later;
         for number in passed.changes..end {
             if let Some(change) = self.changes.get(number) {
                 before = before.without(change.part);
-                if !change.after.shared_with(live).is_nothing() {
+                if !change.after.shared_with(later).is_nothing() {
                     before = before.with(change.part);
                 }
             }

@@ -110,10 +110,10 @@ fn is_same(one: &Metadata, other: &Metadata) -> bool {
 }
 
 // Returns the name that `name` leads to after every link is followed. No file of that name needs to exist.
-// Fails with `FilesystemLoop` after `MOST_LINKS` links.
+// Fails with `FilesystemLoop` if there are more than `MOST_LINKS` links.
 fn followed<F: Files>(alloc: Global, files: &F, name: &str) -> io::Result<PathBuf> {
     let mut place = PathBuf::from_str(alloc, name)?;
-    for _ in 0..MOST_LINKS {
+    for _ in 0..=MOST_LINKS {
         match fs::symlink_metadata(files, &place) {
             Ok(metadata) if metadata.is_symlink() => {}
             _ => return Ok(place),

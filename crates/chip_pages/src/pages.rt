@@ -199,7 +199,7 @@ static LINE_PAGES: [Page; 32] = [
     Page {
         code: "W2",
         title: "name never used",
-        meaning: "A label, EQU or DEFINE defines a name, and no expression, IFDEF or IFUND uses it. A label at the beginning of the program, and a name that begins with `_`, may be there for the reader and have no warning.",
+        meaning: "A label, EQU or DEFINE defines a name, and no expression, IFDEF, IFUND or property uses it. A label at the beginning of the program, and a name that begins with `_`, may be there for the reader and have no warning.",
         example: Example::Source("STOP: JP STOP\nWIDTH EQU 64"),
         fix: "Delete the name, correct the spelling where you meant to use it, or begin it with `_`.",
     },
@@ -276,7 +276,7 @@ static LINE_PAGES: [Page; 32] = [
     Page {
         code: "P4",
         title: "value out of range in a property",
-        meaning: "A value is below 0, the numbers of a sum have over 32 bits together, an address is above 4095, or a pixel is off the screen: columns go to 127, rows to 63.",
+        meaning: "A number is above 2147483647, a value is below 0, the numbers of a sum have over 32 bits together, an address is above 4095, or a pixel is off the screen: columns go to 127, rows to 63.",
         example: Example::Source("STOP: JP STOP\n;! never [4096] = 1"),
         fix: "Use a value in the range. Instead of subtracting on one side of a relation, add on the other.",
     },

@@ -105,11 +105,7 @@ fn key_edit<'a>(word: &[u8], operands: &'a [u8]) -> Result<Command<'a>, CommandF
     }
     if word == b"krep".as_slice() {
         return match key_event(operands) {
-            Some((step, (key, down))) => Ok(Command::Edit(Edit::ReplaceKey {
-                step,
-                key,
-                down,
-            })),
+            Some((step, (key, down))) => Ok(Command::Edit(Edit::ReplaceKey { step, key, down })),
             None => Err(CommandFault::Unknown),
         };
     }

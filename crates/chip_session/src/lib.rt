@@ -4,9 +4,9 @@
 mod answer;
 mod ask;
 mod bench;
-mod edit;
 mod command;
 mod counted;
+mod edit;
 mod image_run;
 mod key_file;
 pub mod laws;
@@ -23,11 +23,11 @@ mod text;
 
 pub use answer::{faults_answer, listing_answer, symbols_answer};
 pub use bench::Bench;
-pub use edit::Edit;
 pub use chip_asm::OpenError;
 pub use chip_views::Letters;
 pub use command::{Command, CommandFault, number_of, read_command};
 pub use counted::Counted;
+pub use edit::Edit;
 pub use key_file::{KeyFileError, insert_keys};
 pub use observer::{Nobody, Observer};
 pub use picture::PictureForm;

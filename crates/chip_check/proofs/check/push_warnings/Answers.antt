@@ -27,7 +27,8 @@ loop-warning-preserved c =
           let hints = w.in_ok-push_warning.ensures.0 in
           let found : Some line ≡ line_at lines c.warning-item.result.line = sym w.in-Some.is ∙ c.line.ensures.value in
           one _ _ before _ _ c.loop-warning-test.true c.warning-item.is (ap (λ v. v.items) w.text-is ∙ w.in_ok-push_warning.ensures.1)
-          (subst (λ o. IsWarningText print o c.warning-item.result (warning_text print line.text c.warning-item.result hints)) found (hints, refl)) c.loop-warning.invariant
+          (subst (λ o. IsWarningText print o c.warning-item.result (warning_text print w.text.result.now c.warning-item.result hints)) found
+          (hints, ap (λ text. warning_text print text c.warning-item.result hints) w.text.ensures)) c.loop-warning.invariant
       | in_default w ↦
           let nothing : None ≡ line_at lines c.warning-item.result.line = sym w.in_default.is ∙ c.line.ensures.value in
           one _ _ before _ [] c.loop-warning-test.true c.warning-item.is (ap (λ v. v.items) w.text-is ∙ sym (append-nil before))

@@ -11,7 +11,7 @@ returns c = IfOk-weaker c.is_closed.result _ _ (λ proof closed yes-it-is.
     let begins : Starts c.args.self.now c.args.image.now c.args.quirks = record {
       memory = λ at low. subst (λ m. Holds c.args.self.now.memory.items (256 * at + get_or m at 0)) is (c.if-not-has_memory.ensures.memory refl at low);
       flags = λ at high low. c.if-not-has_memory.ensures.flags refl at high low;
-      row = λ tape. c.if-not-has_row.ensures refl (start_core tape c.args.quirks) (record { pc = refl; frames_are = refl; known = c.start-2.ensures (start_core tape c.args.quirks) refl refl refl refl });
+      row = λ tape. c.if-not-has_row.ensures refl (start_core tape c.args.quirks) (record { pc = refl; frames_are = refl; known = c.start.ensures (start_core tape c.args.quirks) refl refl refl refl });
       bytes = λ at. subst (λ m. get_or m at 0 < 256) is (c.if-not-has_memory.ensures.small at);
       size = ap length (sym is) ∙ c.memory.ensures.size;
     } in
