@@ -155,7 +155,7 @@ class TestNotices(unittest.TestCase):
         self.module("session.wasm"), self.module("chipbench.wasm")
         run(TOP / "frontends/web/page", self.folder / "page.html", TOP / "release")
         run(TOP / "packaging/hosted-page", self.folder / "hosted.html")
-        for name, most in (("page.html", 2_100_000), ("hosted.html", 1_400_000)):
+        for name, most in (("page.html", 2_110_000), ("hosted.html", 1_400_000)):
             content = (self.folder / name).read_bytes()
             self.assertLessEqual(len(content), most)
             blocks = {found[1]: (found[2], found[3]) for found in re.finditer(r'<script type="application/[\w-]+" id="([\w-]+)"([^>]*)>([^<]*)</script>', content.decode())}

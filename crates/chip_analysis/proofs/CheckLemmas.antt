@@ -1,5 +1,5 @@
 -- What `check` did with sources, one after another.
-use Rattle.std.proofs.Common.{◌≡◌, ◌⊎◌, inl, inr, ℕ, suc, ◌+◌, ◌<◌, ◌≤◌, Bool, true, false, List, [], ◌∷◌, drop, length, get_or, Option, Some, None, Result, Ok, Err, IfErr, IfOk, refl, sym, ◌∙◌, ap, subst, add-one, drop-cons}
+use Rattle.std.proofs.Common.{◌≡◌, ◌⊎◌, inl, inr, ℕ, suc, ◌+◌, ◌<◌, ◌≤◌, Bool, true, false, List, [], ◌∷◌, drop, length, get_or, Option, Some, None, Result, Ok, Err, IfErr, IfOk, refl, sym, ◌∙◌, ap, ap₂, subst, add-one, drop-cons}
 use Rattle.std.proofs.lemmas.List.{drop_all}
 use Rattle.std.specs.Borrow.{Bor}
 use Rattle.std.specs.Prelude.{All, IfSome, IsErr, IsSome, MatchOption, option_copied, option_map}
@@ -15,7 +15,7 @@ use Rattle.chip_analysis.specs.Commands.{Checks, ChecksEach, ChecksOne, IfSet, I
 use Rattle.chip_host.specs.Reading.{GivesSource, IfSettled, IsSourceUnread}
 use Rattle.chip_host.specs.SettingArguments.{settings_asked}
 use Rattle.chip_host.specs.Endings.{Outcome}
-use Rattle.chip_analysis.specs.Checking.{Checking, with_ending, worse, AreWarned, IsCheckText, IsCoveredBy, IsPrintedCheckOf, IsWarned, unopened_check}
+use Rattle.chip_analysis.specs.Checking.{Checking, gives_tape, paints, with_ending, worse, AreWarned, IsCheckText, IsCoveredBy, IsPrintedCheckOf, IsWarned, unopened_check}
 use Rattle.chip_analysis.specs.declared.covering.Covered.{Covered}
 use Rattle.chip_analysis.specs.inner.Covering.{IsCovered, IsCoverageOf}
 use Rattle.chip_facts.specs.Facts.{AreFacts}
@@ -58,7 +58,10 @@ covers : (is_covering : Bool) (settings : SessionSettings) (image : List ℕ) (c
     IsCoverageOf covered coverage → IsCovered is_covering settings (Some image) covered → IsCoveredBy is_covering settings image coverage
 covers true settings image (Some covered) (Some coverage) same is =
     rw (same.0, same.1) is
+covers true settings image (Some covered) None same is = absurd same
+covers true settings image None coverage same is = absurd is
 covers false settings image None coverage same is = same
+covers false settings image (Some covered) coverage same is = cc
 
 -- facts say at which addresses steps may be made
 reached : (image : List ℕ) (quirks : Quirks) (facts : Option Facts) (executed : Option (List Bool)) → IfSome facts (HoldFacts image quirks) →
@@ -82,7 +85,7 @@ module _ (checking : Checking) (lines : List (List ℕ)) (asked : Asked) (covere
     tape = tape;
     covered = covers checking.is_covering checking.settings image covered asked.coverage same cover;
     reachable = reached image checking.settings.quirks facts (option_copied asked.reachable) hold executed;
-    told = told (subst IsSome (sym is) tt);
+    told = told (subst IsSome (sym is) refl);
     places = places;
   }
 
@@ -95,6 +98,22 @@ module _ (checking : Checking) (lines : List (List ℕ)) (asked : Asked) (covere
   are_warned items (Ok v) places faulty told cover hold =
       by_image (items v) (subst (λ a. All (StandsIn a lines) (items v)) allowed places) told (image_of lines) refl faulty cover hold
   are_warned items (Err e) places faulty told cover hold = tt
+
+-- what the arguments ask of `check`, by what the code finds in them
+module _ (takes_color : Bool) (arguments : CheckArguments) (settings : SessionSettings) (allowed : ℕ) where
+  abbrev pub asked_with : (painted has_tape : Bool) → Checking
+  asked_with painted has_tape = record {
+    is_json = arguments.is_json;
+    is_painted = painted;
+    is_covering = arguments.is_covering;
+    has_tape = has_tape;
+    allowed = allowed;
+    settings = settings;
+  }
+
+  pub same_asked : (painted has_tape : Bool) → painted ≡ paints arguments.color takes_color → has_tape ≡ gives_tape arguments.settings →
+      asked_with painted has_tape ≡ checking_asked takes_color arguments settings allowed
+  same_asked painted has_tape p h = ap₂ asked_with p h
 
 module _ (checking : Checking) (name bytes : List ℕ) where
   -- what is found in a source that opens

@@ -20,7 +20,7 @@ use Rattle.chip_host.specs.Reading.{Declined, FromGiven, IfSettled, IsGiven, IsN
 use Rattle.chip_analysis.specs.Commands.{ExcludesOrSearches, Explores, IfSet, IsBadProperty, IsBadSet, Searches, SearchesFrom}
 use Rattle.chip_host.specs.Printing.{Fails, IfOpens, Prints, printed, printed_faults}
 use Rattle.chip_host.specs.Endings.{Outcome}
-use Rattle.chip_analysis.specs.Exploring.{AreStopsLeft, AsksCauses, AsksKeys, AsksProperty, answer_lines, covering_text, search_ending, target_asked, IsBounded}
+use Rattle.chip_analysis.specs.Exploring.{AreStopsLeft, AsksCauses, AsksKeys, AsksProperty, answer_lines, covering_text, search_ending, target_asked}
 use Rattle.chip_host.specs.SettingArguments.{settings_asked}
 use Rattle.chip_host.specs.declared.ending.Ending.{Ending}
 use Rattle.chip_host.specs.declared.ending.Ending.TheVariants.{Faulty}
@@ -47,13 +47,13 @@ module _ {W : Type 0} (contents : W → Option (List ℕ)) (out_old out_new : Ta
   -- what is printed of a search
   pub search_printed : (arguments : ExploreArguments) (lines : List (List ℕ)) (rate keys : ℕ) (target : Target) (left : Option (List Left)) (start : State)
       (explored : Explored) (text place others stops : List ℕ) (ending : Ending) (ended : Outcome) → Answers rate keys target start explored.outcome →
-      AreExecuted rate keys explored.executed start explored.outcome → IsBounded arguments.search explored →
+      AreExecuted rate keys explored.executed start explored.outcome →
       (explored.is_at_any_speed ≡ true → NeverAtAnySpeed keys target start) →
       text ≡ answer_lines arguments.search.is_any_speed place explored ++ others ++ stops ++ covering_text arguments.is_covering explored.executed lines →
       AreStopsLeft target.causes left stops → ending ≡ search_ending explored.outcome explored.is_short → Prints contents out_old out_new (printed text ending) ended →
       SearchesFrom contents out_old out_new arguments lines rate keys target left start ended
-  search_printed arguments lines rate keys target left start explored text place others stops ending ended answers executed bounded speed is listed end prints =
-      inl (explored, answers, executed, bounded, speed, inl (printed text ending, record { place = place; others = others; stops = stops; text = is; listed = listed; ending = end }, prints))
+  search_printed arguments lines rate keys target left start explored text place others stops ending ended answers executed speed is listed end prints =
+      inl (explored, answers, executed, speed, inl (printed text ending, record { place = place; others = others; stops = stops; text = is; listed = listed; ending = end }, prints))
 
   -- memory ran out for a search
   pub searches_short : (arguments : ExploreArguments) (settings : SessionSettings) (causes keys : ℕ) (lines : List (List ℕ)) (ended : Outcome) →

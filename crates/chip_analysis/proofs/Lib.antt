@@ -7,3 +7,4 @@ pub mod ProvingLemmas
 pub mod ProveLemmas
 pub mod SearchedLemmas
 pub mod PropertiesLemmas
+pub mod CountsLemmas

@@ -1,6 +1,6 @@
 -- What the command `prove` did with a source.
-use Rattle.std.proofs.Common.{◌≡◌, ◌⊎◌, inl, inr, ℕ, Bool, true, false, List, [], Option, Some, None, Err, refl, sym, ◌∙◌, ap, subst}
-use Rattle.std.specs.Prelude.{is_none, option_copied, if◌then◌else◌}
+use Rattle.std.proofs.Common.{◌≡◌, ◌⊎◌, inl, inr, ℕ, Bool, true, false, List, [], ◌++◌, Option, Some, None, Result, Ok, Err, refl, sym, ◌∙◌, ap, subst}
+use Rattle.std.specs.Prelude.{OnOk, is_none, option_copied, if◌then◌else◌}
 use Rattle.chip_arguments.specs.declared.command_line.ProveArguments.{ProveArguments}
 use Rattle.chip_asm.specs.Lines.{lines_of, open_fault}
 use Rattle.chip_asm.specs.LineViews.{LineFacts}
@@ -43,6 +43,13 @@ module _ (print : Print) (fault : PropertyFault) where
   reported true line facts text added is some same told =
       subst (λ o. IsReportIf true print o fault added) some (subst (λ t. IsPropertyFault print t fault added) same told)
   reported false line facts text added is some same told = cc
+
+  pub reported_by : {T E : Type 0} (result : Result T E) (asked : Bool) (line : Option LineFacts) (facts : LineFacts) (text old new : List ℕ) →
+      asked ≡ true → Some facts ≡ line → text ≡ facts.text →
+      OnOk result ((added : List ℕ) × IsPropertyFault print text fault added × (new ≡ old ++ added)) →
+      OnOk result ((added : List ℕ) × IsReportIf asked print line fault added × (new ≡ old ++ added))
+  reported_by (Ok t) asked line facts text old new is some same told = (told.0, reported asked line facts text told.0 is some same told.1, told.2)
+  reported_by (Err e) asked line facts text old new is some same told = tt
 
 module _ {W : Type 0} (contents : W → Option (List ℕ)) (out_old out_new : Tally W) (arguments : ProveArguments) (settings : SessionSettings) (keys : ℕ)
     (bytes : List ℕ) (ended : Outcome) where

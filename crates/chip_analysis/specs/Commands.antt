@@ -15,7 +15,7 @@ use Rattle.chip_host.specs.Printing.{Printed, IfOpens, Streams, WritesFront, Pri
 use Rattle.chip_host.specs.SettingArguments.{settings_asked}
 use Rattle.chip_session.specs.Settings.{SessionSettings}
 use Rattle.chip_session.specs.Tally.{Tally}
-use Rattle.chip_analysis.specs.Exploring.{AreLeft, AsksCauses, AsksKeys, AsksProperty, AsksSet, IsBounded, IsExclusionPrinted, IsSearchPrinted, key_named, target_asked, usual_keys, warning_named}
+use Rattle.chip_analysis.specs.Exploring.{AreLeft, AsksCauses, AsksKeys, AsksProperty, AsksSet, IsExclusionPrinted, IsSearchPrinted, key_named, target_asked, usual_keys, warning_named}
 use Rattle.chip_analysis.specs.Proving.{Answered, AreAnswered, IsProofPrinted, asked_of, has_faults, unstated_line}
 use Rattle.chip_properties.specs.Properties.{AreProperties}
 use Rattle.chip_properties.specs.declared.fault.PropertyFault.{PropertyFault}
@@ -84,7 +84,6 @@ module _ {W : Type 0} (contents : W → Option (List ℕ)) (out_old out_new : Ta
   SearchesFrom arguments lines rate keys target left start ended =
       ((explored : Explored) × Answers rate keys target start explored.outcome
       × AreExecuted rate keys explored.executed start explored.outcome
-      × IsBounded arguments.search explored
       × (explored.is_at_any_speed ≡ true → NeverAtAnySpeed keys target start)
       × PrintsSuch contents out_old out_new (IsSearchPrinted arguments lines target.causes left explored) ended)
       ⊎ Fails contents out_old out_new (IsScriptUnwritten arguments.search.keys_to) ended

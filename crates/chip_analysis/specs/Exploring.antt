@@ -9,14 +9,13 @@
 --     answer_lines            the same lines, where an answer at any speed may be asked for
 --     excluded_lines, IsExclusionPrinted     what is printed where facts exclude what is looked for
 --     AreLeft, left_line, AreLeftLines, AreStopsLeft     the stops that facts leave, and their lines
---     last_asked, IsBounded   the bounds that the arguments set for a search
+--     last_asked              the last step that an answer may name
 --     IsSearchPrinted         what is printed of a search, and how the program ends
-use Rattle.std.specs.Prelude.{◌≡◌, ℕ, ℤ, pos, ◌+◌, ◌-◌, ◌*◌, ◌^◌, ◌≤◌, ◌&&◌, Bool, true, false, List, [], ◌∷◌, ◌++◌, codes, fold, length, map, nat_le, nat_lt, bit_or, Option, Some, None, option_copied, option_map, if◌then◌else◌}
+use Rattle.std.specs.Prelude.{◌≡◌, ℕ, ℤ, pos, ◌+◌, ◌-◌, ◌^◌, ◌&&◌, Bool, true, false, List, [], ◌∷◌, ◌++◌, codes, fold, length, map, nat_le, nat_lt, bit_or, Option, Some, None, option_copied, option_map, if◌then◌else◌}
 use Rattle.std.specs.Borrow.{Bor}
 use Rattle.std.specs.Fmt.{decimal}
 use Rattle.memchr.specs.Find.{Nowhere, Passes, is_byte}
 use Rattle.chip_arguments.specs.declared.command_line.ExploreArguments.{ExploreArguments}
-use Rattle.chip_arguments.specs.declared.command_line.SearchArguments.{SearchArguments}
 use Rattle.chip_symbols.specs.Names.{Name, lookup_name, values_of}
 use Rattle.chip_asm.specs.Program.{symbols_of}
 use Rattle.chip_symbols.specs.declared.table.Symbol.{Symbol}
@@ -28,7 +27,6 @@ use Rattle.chip_machine.specs.Limits.{MEMORY_BYTES}
 use Rattle.chip_machine.specs.Numbers.{stop_number}
 use Rattle.chip_machine.specs.declared.quirks.Quirks.{Quirks}
 use Rattle.chip_machine.specs.declared.stop.Stop.{Stop}
-use Rattle.chip_explore.specs.Answers.{EndsBy, IsFirst, most_ways}
 use Rattle.chip_explore.specs.Causes.{is_wanted}
 use Rattle.chip_explore.specs.declared.limits.TheConstants.{END}
 use Rattle.chip_explore.specs.declared.question.Outcome.{Outcome}
@@ -266,15 +264,6 @@ AreStopsLeft causes (Some left) text = AreLeftLines causes left text
 abbrev pub last_asked : (steps : Option ℕ) → ℕ
 last_asked None = END - 1
 last_asked (Some step) = step
-
--- The bounds that the arguments set for a search. The answer names no later step, and no earlier step than the one
--- found has been missed, unless `--deep` is asked for. The states kept are at most those asked for and as many as
--- follow one state, and twice as many with `--deep`.
-pub record IsBounded (search : SearchArguments) (explored : Explored) : Type 0 where
-  pub steps : EndsBy (last_asked search.steps) explored.outcome
-  pub first : search.is_deep ≡ false → IsFirst explored.outcome
-  pub states : search.is_deep ≡ false → explored.states ≤ search.states + most_ways
-  pub states_by_both : explored.states ≤ 2 * (search.states + most_ways)
 
 -- The output of a search: the answer, other lines (the other causes that it met, and how many states it
 -- kept), the stops that facts leave, and the listing. No contract describes the other lines, nor the place in

@@ -10,7 +10,7 @@
 --     IsReport           the report on a property that can't be read
 --     counts_text, IsCounts    the last lines, with the numbers of facts and states
 --     IsProofPrinted     what is printed of properties that are answered
-use Rattle.std.specs.Prelude.{◌≡◌, ℕ, ◌==◌, ◌||◌, Any, Bool, true, false, IfSome, List, [], ◌∷◌, ◌++◌, codes, filter, map, Option, Some, None, unwrap_or, if◌then◌else◌}
+use Rattle.std.specs.Prelude.{◌≡◌, ◌⊎◌, ℕ, ◌==◌, ◌||◌, Bool, true, false, IfSome, List, [], ◌∷◌, ◌++◌, codes, filter, map, Option, Some, None, unwrap_or, if◌then◌else◌}
 use Rattle.std.specs.Fmt.{decimal}
 use Rattle.std.specs.List.{All, flat_map, list_any}
 use Rattle.std.specs.List.Sorted.{IsPermutation}
@@ -161,7 +161,7 @@ bound_member (Some bound) = codes ",\"ended_by\":\"" ++ bound ++ codes "\""
 
 -- the last lines: the number of rows in the table of facts, and the most states that a search kept; as JSON also
 -- whether memory ran out, and the bound at which a search ended early
-unfoldable pub counts_text : (is_json : Bool) (name : List ℕ) → (facts : Option ℕ) (states : ℕ)
+abbrev pub counts_text : (is_json : Bool) (name : List ℕ) → (facts : Option ℕ) (states : ℕ)
     → (is_short : Bool) (bound : Option (List ℕ)) → List ℕ
 counts_text false name facts states is_short bound =
     facts_line facts ++ number_line (codes "states ") states
@@ -174,8 +174,8 @@ pub record IsCounts (is_json : Bool) (name : List ℕ) (is_short : Bool) (text :
   pub facts : Option ℕ
   pub states : ℕ
   pub bound : Option (List ℕ)
-  pub named : IfSome bound (λ word. Any (λ one. word ≡ one)
-      (codes "seconds" ∷ codes "memory" ∷ codes "states" ∷ []))
+  pub named : IfSome bound (λ word.
+      (word ≡ codes "seconds") ⊎ ((word ≡ codes "memory") ⊎ (word ≡ codes "states")))
   pub is : text ≡ counts_text is_json name facts states is_short bound
 
 -- The output for these answers: before them the reports on the properties that can't be read, and after them how

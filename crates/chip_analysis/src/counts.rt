@@ -1,7 +1,7 @@
 //! The last lines of `prove`: how many facts were found, and how many states the searches kept.
 
 ghost use Rattle.std.specs.Prelude.{◌≡◌, ◌++◌, [], IfOk, OnOk, false, option_map, true};
-ghost use Rattle.chip_analysis.specs.Proving.{IsCounts, bound_member, facts_member, short_member};
+ghost use Rattle.chip_analysis.specs.Proving.{IsCounts, bound_member, facts_line, facts_member, short_member};
 ghost use Rattle.chip_analysis.specs.inner.Counts.{counts_of, word_of};
 
 use crate::exploring::push_line;
@@ -44,9 +44,7 @@ impl Counts {
         ensures { IfOk result (λ text. text.items ≡ counts_of false [] self) }
     {
         let mut text = Vec::new(alloc);
-        if let Some(facts) = self.facts {
-            push_line(&mut text, b"facts ", facts)?;
-        }
+        push_facts_line(&mut text, self.facts)?;
         push_line(&mut text, b"states ", self.states)?;
         Ok(text)
     }
@@ -65,6 +63,15 @@ impl Counts {
         text.extend_from_slice(b"}\n")?;
         Ok(text)
     }
+}
+
+fn push_facts_line(text: &mut Vec<u8>, facts: Option<u64>) -> Result<(), AllocError>
+    ensures { OnOk result (text.new.items ≡ text.old.items ++ facts_line facts) }
+{
+    if let Some(rows) = facts {
+        push_line(text, b"facts ", rows)?;
+    }
+    Ok(())
 }
 
 fn push_facts(text: &mut Vec<u8>, facts: Option<u64>) -> Result<(), AllocError>

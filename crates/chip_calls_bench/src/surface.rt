@@ -40,16 +40,18 @@ fn language(alloc: Global) -> Result<String, Error> {
     let names = Source::open(alloc, GAME)?;
     let mut meter = Meter::new();
     let line = read_line(alloc, &mut meter, b"A: LD V0, X + 1")?;
-    let bytes = Bytes::new(match encode(alloc, &mut meter, &line, &names)? {
+    let coded = encode(alloc, &mut meter, &line, &names)?;
+    let bytes = Bytes::new(match &coded {
         Coded::Bytes(bytes) => Vec::from_slice(alloc, bytes.get())?,
         Coded::Faulty(_) => Vec::new(alloc),
     });
     let code = hex::encode(alloc, bytes.get())?;
-    let value = match read_line(alloc, &mut meter, b"Y = X * 2")? {
+    let definition = read_line(alloc, &mut meter, b"Y = X * 2")?;
+    let value = match &definition {
         Line::Read {
-            label: _,
             body: Body::Equ(expr),
-        } => eval(&expr, &names).ok(),
+            ..
+        } => eval(expr, &names).ok(),
         _ => None,
     };
     let defined = String::from_utf8_lossy(alloc, defines(&line).unwrap_or(b""))?;

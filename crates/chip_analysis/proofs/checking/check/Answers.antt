@@ -1,6 +1,6 @@
 use Rattle.std.proofs.lemmas.Result.{err_from_is_err_and}
 use Rattle.std.proofs.Common.{◌∙◌, ap, refl, Err}
-use Rattle.chip_analysis.proofs.CheckLemmas.{checks, checks_bad, checks_unsettled}
+use Rattle.chip_analysis.proofs.CheckLemmas.{checks, checks_bad, checks_unsettled, same_asked}
 use Rattle.chip_analysis.proofs.checking.check.Goals as goal
 
 pub returns-in_err-settings : goal.returns-in_err-settings
@@ -21,5 +21,5 @@ returns g c =
     checks g.I.Read.remaining g.O.Write.contents c.args.input.now c.check_each.new.input c.args.output.now c.check_each.new.output c.args.system.now.host.takes_color
     c.args.arguments.now c.check_each.result c.in_ok-settings.settings c.in_ok-settings.ensures.ok c.in_ok-allowed.allowed _ c.deref-names.result.now
     c.in_ok-allowed.ensures.ok
-    (ap₂ (λ (painted has_tape : Bool). record { is_json = c.args.arguments.now.is_json; is_painted = painted; is_covering = c.args.arguments.now.is_covering; has_tape = has_tape; allowed = c.in_ok-allowed.allowed; settings = c.in_ok-settings.settings }) c.paints.ensures c.gives_tape.ensures)
+    (same_asked c.args.system.now.host.takes_color c.args.arguments.now c.in_ok-settings.settings c.in_ok-allowed.allowed c.paints.result c.gives_tape.result c.paints.ensures c.gives_tape.ensures)
     c.deref-names.ensures.value c.check_each.ensures

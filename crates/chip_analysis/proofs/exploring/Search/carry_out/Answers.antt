@@ -1,9 +1,8 @@
-use Rattle.std.proofs.Common.{◌∙◌, ap, subst}
-use Rattle.chip_explore.specs.Answers.{EndsBy}
+use Rattle.std.proofs.Common.{◌∙◌, ap}
 use Rattle.std.specs.Prelude.{option_copied}
 use Rattle.chip_analysis.proofs.ExcludingLemmas.{none_left, some_left}
 use Rattle.chip_analysis.proofs.ExploringLemmas.{found_written, search_printed}
-use Rattle.chip_analysis.specs.Exploring.{AreStopsLeft, IsBounded}
+use Rattle.chip_analysis.specs.Exploring.{AreStopsLeft}
 use Rattle.chip_analysis.proofs.exploring.Search.carry_out.Goals as goal
 use Rattle.chip_analysis.proofs.exploring.Search.carry_out.Goals.{in-Some+in_ok-stops-in-Some, in-None}
 
@@ -18,16 +17,9 @@ returns-clause-searched g c =
           some_left causes search.left _ _ stops w.in-Some.is w.in_ok-stops-in-Some.ensures (c.deref-2.ensures.value ∙ ap (λ t. t.items) w.stops-is)
       | in-None w ↦ none_left causes search.left stops w.in-None.is (c.deref-2.ensures.value ∙ ap (λ t. t.items) w.stops-is ∙ w.new-stops.ensures.items)
     ] in
-    let bounds = c.bounds_of-bounds in
-    let bounded : IsBounded search.arguments.now.search c.explore-explored.result = record {
-      steps = subst (λ last. EndsBy last c.explore-explored.result.outcome) bounds.ensures.steps c.explore-explored.ensures.ends;
-      first = λ flat. c.explore-explored.ensures.first (bounds.ensures.deep ∙ flat);
-      states = λ flat. rw (bounds.ensures.states) at c.explore-explored.ensures.few (bounds.ensures.deep ∙ flat);
-      states_by_both = rw (bounds.ensures.states) at c.explore-explored.ensures.few_by_both;
-    } in
     search_printed g.O.Write.contents c.args.output.now c.print.new.output search.arguments.now search.source.now.lines question.rate question.allowed
     question.target (option_copied search.left) search.start.now c.explore-explored.result c.deref-3.result.now _ c.in_ok-text.ensures.0 stops c.search_ending.result c.print.result
-    c.explore-explored.ensures.answers c.explore-explored.ensures.executed bounded c.explore-explored.ensures.any_speed (c.deref-3.ensures.value ∙ c.in_ok-text.ensures.1) listed c.search_ending.ensures
+    c.explore-explored.ensures.answers c.explore-explored.ensures.executed c.explore-explored.ensures.any_speed (c.deref-3.ensures.value ∙ c.in_ok-text.ensures.1) listed c.search_ending.ensures
     c.print.ensures
 
 pub returns-clause-written : goal.returns-clause-written

@@ -37,8 +37,8 @@ returns g c =
     let some : unstated_line p.arguments.now.only asked c.has_faults-is_faulty.result ≡ None =
     not_missing p.arguments.now.only c.is_empty-is_empty.result c.has_faults-is_faulty.result asked c.in_default.ensures
     (left_none asked c.in_ok-left.left c.is_empty-is_empty.result is c.is_empty-is_empty.ensures) in
-    let reported : AreTexts (IsReport p.arguments.now p.source.now.lines) properties.faults.items c.deref-3.result.now =
-    rw (c.deref-2.ensures.value, sym c.deref-3.ensures.value) c.in_ok-reports.ensures in
+    let reported : AreTexts (IsReport p.arguments.now p.source.now.lines) properties.faults.items c.deref-4.result.now =
+    rw (sym c.deref-3.ensures.value, c.deref-4.ensures.value) c.in_ok-reports.ensures in
     inl (
       properties,
       c.in_ok-stated.ensures,

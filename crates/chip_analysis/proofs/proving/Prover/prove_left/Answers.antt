@@ -45,12 +45,12 @@ returns-in_err-ending g c = λ asked is faults faulty reported.
     let e = err_from_is_err_and c.from_residual-in_err-ending.result c.from_residual-in_err-ending.ensures.1 in
     from_ended p.arguments.now p.source.now.lines p.rate p.keys p.start.now g.O.Write.contents asked faults c.args.reports.now reported c.args.output.now
     c.print.new.output c.answer.new.output c.in_ok-told.told c.in_ok-print.ensures.1 (c.in_ok-told.ensures asked is) c.print-2.new.output c.deref.result.now
-    (rw (sym c.deref.ensures.value) c.in_ok-text.ensures) c.ending.result c.from_residual-in_err-ending.result (by_faults c.in_ok-told.told.is_short c.in_ok-told.told.is_bad c.args.is_faulty _ faulty _ c.ending.ensures) (rw (e.1 ∙ ap (λ why. Err why) e.2) c.in_err-ending.ensures)
+    (rw (c.deref.ensures.value) c.in_ok-text.ensures) c.ending.result c.from_residual-in_err-ending.result (by_faults c.in_ok-told.told.is_short c.in_ok-told.told.is_bad c.args.is_faulty _ faulty _ c.ending.ensures) (rw (e.1 ∙ ap (λ why. Err why) e.2) c.in_err-ending.ensures)
 
 pub returns : goal.returns
 returns g c = λ asked is faults faulty reported.
     let p = c.args.self.now in
     from_all p.arguments.now p.source.now.lines p.rate p.keys p.start.now g.O.Write.contents asked faults c.args.reports.now reported c.args.output.now
     c.print.new.output c.answer.new.output c.in_ok-told.told c.in_ok-print.ensures.1 (c.in_ok-told.ensures asked is) c.print-2.new.output c.deref.result.now
-    (rw (sym c.deref.ensures.value) c.in_ok-text.ensures) c.in_ok-ending.ending c.ending.result c.end.result
+    (rw (c.deref.ensures.value) c.in_ok-text.ensures) c.in_ok-ending.ending c.ending.result c.end.result
     (by_faults c.in_ok-told.told.is_short c.in_ok-told.told.is_bad c.args.is_faulty _ faulty _ c.ending.ensures) c.in_ok-ending.ensures.0 c.in_ok-ending.ensures.1 c.end.ensures.ok c.end.ensures.err

@@ -1,11 +1,14 @@
 use Rattle.std.proofs.Common.{[], refl, subst, sym}
 use Rattle.chip_check.specs.Check.{AreTexts}
-use Rattle.chip_check.proofs.TextsInOrder.{no_part_left, no_part_yet, one_part_more}
+use Rattle.chip_check.proofs.TextsInOrder.{PartsSoFar, no_part_left, no_part_yet, one_part_more}
 use Rattle.chip_analysis.specs.Proving.{IsReport}
 use Rattle.chip_analysis.proofs.proving.Prover.reports.Goals as goal
 
 pub loop-fault-init : goal.loop-fault-init
-loop-fault-init g c = no_part_yet (IsReport c.args.self.now.arguments.now c.args.self.now.source.now.lines) c.args.faults.now []
+loop-fault-init g c =
+    let p = c.args.self.now in
+    subst (PartsSoFar (IsReport p.arguments.now p.source.now.lines) c.args.faults.now [] 0) (sym c.new-text.ensures.items)
+    (no_part_yet (IsReport p.arguments.now p.source.now.lines) c.args.faults.now [])
 
 pub loop-fault-preserved : goal.loop-fault-preserved
 loop-fault-preserved g c =
